@@ -1,0 +1,3 @@
+//! Linear curves.
+
+use crate::table::LevelTable;

@@ -1,0 +1,65 @@
+//! Up to 64 levels by value, those of them that are in force, and how one is made.
+
+ghost use Prim.Native.Nat.{_<_};
+ghost use mathlib.Core.Path.{_≡_};
+ghost use lib.ListN.{length};
+ghost use Rattle.levels.specs.Form.{in-force-of, Made, around as around-in, largest as largest-of};
+
+use market::Refusal;
+use market::Rule;
+
+use crate::level::Level;
+
+/// The most levels that a curve has.
+pub const MOST_LEVELS: usize = 64;
+
+/// The place of a refusal for a count of levels that is not 1 to 64.
+pub const BAD_COUNT: u32 = 99;
+
+static NO_LEVELS: [Level; 1] = [Level { price: 0, quantity: 0 }];
+
+/// Levels by value. Any content has levels in force: the longest front of the first `count` that keeps the form, or
+/// the one level (0: 0).
+#[derive(Clone, Copy, Debug)]
+pub struct LevelTable {
+    pub levels: [Level; 64],
+    pub count: u8,
+}
+
+/// The last level priced at most a price, or the first level, and the level after it.
+#[derive(Clone, Copy, PartialEq, Eq, Debug)]
+pub struct Neighbours {
+    pub at: Level,
+    pub next: Option<Level>,
+}
+
+impl LevelTable {
+    /// The levels given, or the refusal of a count that is not 1 to 64 or of the first level that breaks the form.
+    pub fn new(given: &[Level]) -> Result<LevelTable, Refusal>
+        ensures { λ r. ⌜ Made (now (given .entry)) r ⌝ }
+    {
+        let count = given.len();
+        if count == 0 || count > MOST_LEVELS {
+            return Err(Refusal { rule: Rule::Form, place: BAD_COUNT });
+        }
+        let kept = front(given);
+        if kept < count {
+            return Err(Refusal { rule: Rule::Form, place: kept as u32 });
+        }
+        let mut levels = [Level { price: 0, quantity: 0 }; 64];
+        levels[0..count].copy_from_slice(given);
+        Ok(LevelTable { levels, count: count as u8 })
+    }
+
+    /// The levels in force.
+    pub fn in_force(&self) -> &[Level]
+        ensures { λ r. ⌜ now r ≡ in-force-of (now (self .entry)) ⌝ }
+    {
+        let count = (self.count as usize).min(MOST_LEVELS);
+        let kept = front(&self.levels[0..count]);
+        if kept == 0 {
+            return &NO_LEVELS;
+        }
+        &self.levels[0..kept]
+    }
+}
