@@ -4,7 +4,7 @@ use native.Mathlib.Omega.{arith}
 use lib.IntN.{ℤ, pos, _*ℤ_, _-ℤ_}
 use mir.Syntax.{w32, w64}
 use mir.Val.{toZ, ofZ}
-use Rattle.std.proofs.shelf.Signed.{ints}
+use Rattle.std.proofs.shelf.Signed.{ints, toZ-ofZ}
 use Rattle.curve.specs.Gains.{gain}
 use Rattle.curve.proofs.Costs.{Small, cost-small}
 use Rattle.curve.proofs.Margins.{greatest-in-margin}
@@ -38,6 +38,6 @@ returns g c =
     let cost = pos (min (c .args .price) 10000000) *ℤ c .args .matched in
     let net : toZ w64 (ofZ w64 (toZ w64 (ofZ w64 (c .gain .result)) -ℤ toZ w64 (ofZ w64 (toZ w64 (c .min .result) *ℤ toZ w64 (ofZ w64 (toZ w32 (ofZ w32 (c .args .matched)))))))) ≡ c .gain .result -ℤ cost = omega (arith, ints) in
     record {
-      value = net ∙ ap (λ x. x -ℤ cost) (b .value);
+      value = net ∙ ap (λ x. x -ℤ cost) (b .value) ∙ ap (λ x. gain q (c .args .limits) x -ℤ cost) (toZ-ofZ w32 (c .args .matched) (c .fits .matched));
       greatest = greatest-in-margin q (g .C·PriceCurve·met .kept (c .args .curve .now) .never-rises) (c .args .limits) (c .args .price) (c .args .matched)
     }
