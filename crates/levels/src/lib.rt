@@ -4,6 +4,7 @@ pub mod constant;
 pub mod kinds;
 pub mod level;
 pub mod line;
+pub mod search;
 pub mod steps;
 pub mod table;
 

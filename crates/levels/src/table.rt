@@ -1,9 +1,10 @@
-//! Up to 64 levels by value, those of them that are in force, and how one is made.
+//! Up to 64 levels by value, those of them that are in force, and how they are made.
 
-ghost use Prim.Native.Nat.{_<_};
+ghost use Prim.Native.Nat.{ℕ, _≤_};
 ghost use mathlib.Core.Path.{_≡_};
 ghost use lib.ListN.{length};
-ghost use Rattle.levels.specs.Form.{in-force-of, Made, around as around-in, largest as largest-of};
+ghost use Rattle.levels.specs.Form.{kept-front, Longest-front};
+ghost use Rattle.levels.specs.Tables.{in-force-of, table-of, Made};
 
 use market::Refusal;
 use market::Rule;
@@ -20,17 +21,10 @@ static NO_LEVELS: [Level; 1] = [Level { price: 0, quantity: 0 }];
 
 /// Levels by value. Any content has levels in force: the longest front of the first `count` that keeps the form, or
 /// the one level (0: 0).
-#[derive(Clone, Copy, Debug)]
+#[derive(Clone, Copy)]
 pub struct LevelTable {
     pub levels: [Level; 64],
     pub count: u8,
-}
-
-/// The last level priced at most a price, or the first level, and the level after it.
-#[derive(Clone, Copy, PartialEq, Eq, Debug)]
-pub struct Neighbours {
-    pub at: Level,
-    pub next: Option<Level>,
 }
 
 impl LevelTable {
@@ -46,9 +40,7 @@ impl LevelTable {
         if kept < count {
             return Err(Refusal { rule: Rule::Form, place: kept as u32 });
         }
-        let mut levels = [Level { price: 0, quantity: 0 }; 64];
-        levels[0..count].copy_from_slice(given);
-        Ok(LevelTable { levels, count: count as u8 })
+        Ok(LevelTable { levels: filled(given), count: count as u8 })
     }
 
     /// The levels in force.
@@ -62,4 +54,37 @@ impl LevelTable {
         }
         &self.levels[0..kept]
     }
+}
+
+/// The levels, filled up with levels (0: 0).
+fn filled(given: &[Level]) -> [Level; 64]
+    requires { ⌜ length (now given) ≤ 64 ⌝ }
+    ensures { λ r. ⌜ r ≡ table-of (now (given .entry)) .levels ⌝ }
+{
+    let mut levels = [Level { price: 0, quantity: 0 }; 64];
+    for (i, level) in given.iter().enumerate() {
+        levels[i] = *level;
+    }
+    levels
+}
+
+/// How many levels the longest front has that keeps the form.
+pub fn front(levels: &[Level]) -> usize
+    ensures value { λ r. ⌜ r ≡ length (kept-front (now (levels .entry))) ⌝ }
+    ensures longest { λ r. ⌜ Longest-front (now (levels .entry)) r ⌝ }
+{
+    let [first, later @ ..] = levels else {
+        return 0;
+    };
+    if !first.is_bounded() {
+        return 0;
+    }
+    let mut last = *first;
+    for (i, level) in later.iter().enumerate() {
+        if !level.may_follow(last) {
+            return i + 1;
+        }
+        last = *level;
+    }
+    levels.len()
 }

@@ -11,7 +11,7 @@ use market::Limits;
 use market::Side;
 
 /// A curve, cut to at most so many lots bought and so many sold. A number above 1,000,000 counts as that.
-#[derive(Clone, Copy, Debug)]
+#[derive(Clone, Copy)]
 pub struct Cap<C> {
     pub curve: C,
     pub bought: u32,

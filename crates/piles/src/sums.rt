@@ -10,7 +10,7 @@ use market::Refusal;
 use market::Rule;
 
 /// Two curves whose quantities are added. The sum is cut to its reach, which is the total of both, at most 1,000,000.
-#[derive(Clone, Copy, Debug)]
+#[derive(Clone, Copy)]
 pub struct Sum<A, B> {
     pub first: A,
     pub second: B,

@@ -1,0 +1,6 @@
+pub mod Loops
+pub mod Fronts
+pub mod Chains
+pub mod Lines
+pub mod StepRule
+pub mod FlatLaws
