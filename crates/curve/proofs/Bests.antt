@@ -58,11 +58,13 @@ module _ (q : ℕ → ℤ) (falls : Falls q) where
 
     module _ (are-lawful : lawful limits ≡ true) (counted : 0 < lot) where
       pub buying-some : (w : ℕ) → limits .lowest ≤ w → w ≤ limits .highest → lot ≤ traded Buying (q w) → ((p : ℕ) → w < p → p ≤ limits .highest → traded Buying (q p) < lot) → Worth-is q limits Buying lot (Some w)
-      buying-some w from to enough past =
-          (record { are-lawful = are-lawful; counted = counted; inside = inside limits w from to; enough = enough },
-          λ p t. ⊎-elim (λ over. let few = past p over (inside-to limits p (t .inside)) in let many = t .enough in absurd (omega arith)) (λ le. le) (cases-lt w p))
+      buying-some w from to enough past = (
+        record { are-lawful = are-lawful; counted = counted; inside = inside limits w from to; enough = enough },
+        λ p t. ⊎-elim (λ over. let few = past p over (inside-to limits p (t .inside)) in let many = t .enough in absurd (omega arith)) (λ le. le) (cases-lt w p),
+      )
 
       pub selling-some : (w : ℕ) → limits .lowest ≤ w → w ≤ limits .highest → lot ≤ traded Selling (q w) → ((p : ℕ) → p < w → limits .lowest ≤ p → traded Selling (q p) < lot) → Worth-is q limits Selling lot (Some w)
-      selling-some w from to enough before =
-          (record { are-lawful = are-lawful; counted = counted; inside = inside limits w from to; enough = enough },
-          λ p t. ⊎-elim (λ under. let few = before p under (inside-from limits p (t .inside)) in let many = t .enough in absurd (omega arith)) (λ le. le) (cases-lt p w))
+      selling-some w from to enough before = (
+        record { are-lawful = are-lawful; counted = counted; inside = inside limits w from to; enough = enough },
+        λ p t. ⊎-elim (λ under. let few = before p under (inside-from limits p (t .inside)) in let many = t .enough in absurd (omega arith)) (λ le. le) (cases-lt p w),
+      )

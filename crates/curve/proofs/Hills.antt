@@ -55,11 +55,13 @@ short d a b t n h ab nt = ⊎-elim early (λ an. ⊎-elim (late an) (on an) (cas
         let e : n + (a - n) ≡ a = omega arith in
         let up = rw e at (rising d n (a - n) (λ j over upto. h .rises j (omega arith) (omega arith))) in
         omega (arith, ints)
+
     on : a ≤ n → n ≤ b → (climb d n +ℤ pos ((a - n) + (n - b))) ≤ℤ climb d a
     on l u =
         let e : a + (n - a) ≡ n = omega arith in
         let same = rw e at (level d a (n - a) (λ j over upto. h .stays j (omega arith) (omega arith))) in
         omega (arith, ints)
+
     late : a ≤ n → b < n → (climb d n +ℤ pos ((a - n) + (n - b))) ≤ℤ climb d a
     late l u =
         let e : b + (n - b) ≡ n = omega arith in

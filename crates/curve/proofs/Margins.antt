@@ -147,16 +147,17 @@ module _ (q : ℕ → ℤ) (falls : Falls q) (limits : Limits) (p : ℕ) (are-la
       rises : (j : ℕ) → 0 < j → j ≤ up A → pos 0 <ℤ (pos (lot-worth q limits Buying j) -ℤ pos p)
       rises j counted h = ⊎-elim
           (λ l.
-              let f = from in
-              let e = above-in l in
-              let same = bought-is (q (p + 1)) in
-              let enough : j ≤ traded Buying (q (p + 1)) = rw (same, ← e) h in
-              let more = falls lo (p + 1) (omega arith) in
-              let w = bought j counted (omega (arith, ints, sides (q lo), sides (q (p + 1)))) in
-              let k = w .1 (p + 1) (record { are-lawful = are-lawful; counted = counted; inside = inside limits (p + 1) (omega arith) (omega arith); enough = enough }) in
-              omega (arith, ints))
+          let f = from in
+          let e = above-in l in
+          let same = bought-is (q (p + 1)) in
+          let enough : j ≤ traded Buying (q (p + 1)) = rw (same, ← e) h in
+          let more = falls lo (p + 1) (omega arith) in
+          let w = bought j counted (omega (arith, ints, sides (q lo), sides (q (p + 1)))) in
+          let k = w .1 (p + 1) (record { are-lawful = are-lawful; counted = counted; inside = inside limits (p + 1) (omega arith) (omega arith); enough = enough }) in
+          omega (arith, ints))
           (λ l. let none = above-out l in absurd (omega (arith, ints, ap up none)))
           (cases-lt p hi)
+
       stays : (j : ℕ) → up A < j → j ≤ up (q p) → pos (lot-worth q limits Buying j) -ℤ pos p ≡ pos 0
       stays j past h =
           let f = from in
@@ -170,12 +171,13 @@ module _ (q : ℕ → ℤ) (falls : Falls q) (limits : Limits) (p : ℕ) (are-la
           let many-is = bought-is (q (lot-worth q limits Buying j)) in
           ⊎-elim
           (λ l.
-              let e = above-in (omega arith) in
-              let fewer = falls (p + 1) (lot-worth q limits Buying j) (omega arith) in
-              let none : up (q (p + 1)) < j = rw (← e) past in
-              absurd (omega (arith, ints, sides (q (p + 1)), sides (q (lot-worth q limits Buying j)))))
+          let e = above-in (omega arith) in
+          let fewer = falls (p + 1) (lot-worth q limits Buying j) (omega arith) in
+          let none : up (q (p + 1)) < j = rw (← e) past in
+          absurd (omega (arith, ints, sides (q (p + 1)), sides (q (lot-worth q limits Buying j)))))
           (λ l. omega (arith, ints))
           (cases-lt p (lot-worth q limits Buying j))
+
       after : (j : ℕ) → up (q p) < j → j ≤ up (q lo) → (pos (lot-worth q limits Buying j) -ℤ pos p) <ℤ pos 0
       after j past h =
           let w = bought j (omega arith) h in
@@ -193,16 +195,17 @@ module _ (q : ℕ → ℤ) (falls : Falls q) (limits : Limits) (p : ℕ) (are-la
       rises : (j : ℕ) → 0 < j → j ≤ down L → pos 0 <ℤ (pos p -ℤ pos (lot-worth q limits Selling j))
       rises j counted h = ⊎-elim
           (λ l.
-              let t = to in
-              let e = below-in q limits p l to in
-              let same = sold-is (q (p - 1)) in
-              let enough : j ≤ traded Selling (q (p - 1)) = rw (same, ← e) h in
-              let more = falls (p - 1) hi (omega arith) in
-              let w = sold j counted (omega (arith, ints, sides (q hi), sides (q (p - 1)))) in
-              let k = w .1 (p - 1) (record { are-lawful = are-lawful; counted = counted; inside = inside limits (p - 1) (omega arith) (omega arith); enough = enough }) in
-              omega (arith, ints))
+          let t = to in
+          let e = below-in q limits p l to in
+          let same = sold-is (q (p - 1)) in
+          let enough : j ≤ traded Selling (q (p - 1)) = rw (same, ← e) h in
+          let more = falls (p - 1) hi (omega arith) in
+          let w = sold j counted (omega (arith, ints, sides (q hi), sides (q (p - 1)))) in
+          let k = w .1 (p - 1) (record { are-lawful = are-lawful; counted = counted; inside = inside limits (p - 1) (omega arith) (omega arith); enough = enough }) in
+          omega (arith, ints))
           (λ l. let none = below-out q limits p l in absurd (omega (arith, ints, ap down none)))
           (cases-lt lo p)
+
       stays : (j : ℕ) → down L < j → j ≤ down (q p) → pos p -ℤ pos (lot-worth q limits Selling j) ≡ pos 0
       stays j past h =
           let f = from in
@@ -216,12 +219,13 @@ module _ (q : ℕ → ℤ) (falls : Falls q) (limits : Limits) (p : ℕ) (are-la
           let many-is = sold-is (q (lot-worth q limits Selling j)) in
           ⊎-elim
           (λ l.
-              let e = below-in q limits p (omega arith) to in
-              let fewer = falls (lot-worth q limits Selling j) (p - 1) (omega arith) in
-              let none : down (q (p - 1)) < j = rw (← e) past in
-              absurd (omega (arith, ints, sides (q (p - 1)), sides (q (lot-worth q limits Selling j)))))
+          let e = below-in q limits p (omega arith) to in
+          let fewer = falls (lot-worth q limits Selling j) (p - 1) (omega arith) in
+          let none : down (q (p - 1)) < j = rw (← e) past in
+          absurd (omega (arith, ints, sides (q (p - 1)), sides (q (lot-worth q limits Selling j)))))
           (λ l. omega (arith, ints))
           (cases-lt (lot-worth q limits Selling j) p)
+
       after : (j : ℕ) → down (q p) < j → j ≤ down (q hi) → (pos p -ℤ pos (lot-worth q limits Selling j)) <ℤ pos 0
       after j past h =
           let w = sold j (omega arith) h in
@@ -275,7 +279,10 @@ module _ (q : ℕ → ℤ) (falls : Falls q) (limits : Limits) (p : ℕ) (are-la
       omega (arith, ints)
 
 pub greatest-in-margin : (q : ℕ → ℤ) → Falls q → (limits : Limits) (p : ℕ) (m : ℤ) → Greatest-in-margin q limits p m
-greatest-in-margin q falls limits p m are-lawful inside-limits h =
-    (margin-offered q falls limits p are-lawful inside-limits m h,
-    λ n offers. (at-best q falls limits p are-lawful inside-limits m n h offers,
-      (only-best q falls limits p are-lawful inside-limits m n h offers, as-best q falls limits p are-lawful inside-limits m n h)))
+greatest-in-margin q falls limits p m are-lawful inside-limits h = (
+  margin-offered q falls limits p are-lawful inside-limits m h,
+  λ n offers. (
+    at-best q falls limits p are-lawful inside-limits m n h offers,
+    (only-best q falls limits p are-lawful inside-limits m n h offers, as-best q falls limits p are-lawful inside-limits m n h),
+  ),
+)

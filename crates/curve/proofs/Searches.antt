@@ -25,6 +25,7 @@ greatest-found ok low (suc n) = by (ok (low + suc n)) refl (greatest ok low n) (
   where
     under : (p : ℕ) → p ≤ low + suc n → ok (low + suc n) ≡ false → (p ≤ low + n) ⊎ (ok p ≡ false)
     under p u e = ⊎-elim (λ same. inr (rw (← same) at e)) (λ other. inl (omega arith)) (cases-eq p (low + suc n))
+
     by : (t : Bool) → ok (low + suc n) ≡ t → (o : Option ℕ) → Greatest ok low n o → Greatest ok low (suc n) (cond t (Some (low + suc n)) o)
     by true e o h = (omega arith, omega arith, e, λ p l u y. u)
     by false e None h = λ p l u. ⊎-elim (h p l) (λ f. f) (under p u e)
@@ -46,6 +47,7 @@ least-found ok low (suc n) = by (ok low) refl (least ok (suc low) n) (least-foun
   where
     over : (p : ℕ) → low ≤ p → ok low ≡ false → (suc low ≤ p) ⊎ (ok p ≡ false)
     over p l e = ⊎-elim (λ same. inr (rw (← same) at e)) (λ other. inl (omega arith)) (cases-eq p low)
+
     by : (t : Bool) → ok low ≡ t → (o : Option ℕ) → Least ok (suc low) n o → Least ok low (suc n) (cond t (Some low) o)
     by true e o h = (omega arith, omega arith, e, λ p l u y. l)
     by false e None h = λ p l u. ⊎-elim (λ v. h p v (omega arith)) (λ f. f) (over p l e)

@@ -63,9 +63,10 @@ module _ (q : ℕ → ℤ) (limits : Limits) (side : Side) where
 
   -- ---- all lots from one to as many as are traded at its worth are worth the same
   pub same-worth : (lot other w : ℕ) → Worth-is q limits side lot (Some w) → lot ≤ other → other ≤ traded side (q w) → Worth-is q limits side other (Some w)
-  same-worth lot other w h from to =
-      (record { are-lawful = h .0 .are-lawful; counted = omega (arith, h .0 .counted); inside = h .0 .inside; enough = to },
-      λ p t. h .1 p (record { are-lawful = t .are-lawful; counted = h .0 .counted; inside = t .inside; enough = omega (arith, t .enough) }))
+  same-worth lot other w h from to = (
+    record { are-lawful = h .0 .are-lawful; counted = omega (arith, h .0 .counted); inside = h .0 .inside; enough = to },
+    λ p t. h .1 p (record { are-lawful = t .are-lawful; counted = h .0 .counted; inside = t .inside; enough = omega (arith, t .enough) }),
+  )
 
   -- ---- past a lot without worth no lot has one
   pub no-worth : (lot other : ℕ) → 0 < lot → Worth-is q limits side lot None → lot ≤ other → Worth-is q limits side other None
@@ -83,11 +84,14 @@ worth-found q limits Buying lot = of (greatest (trades q limits Buying lot) (lim
         let from = inside-from limits p (t .inside) in
         let to = inside-to limits p (t .inside) in
         both-ways _ (h p from (omega (arith, o .below))) (passes q limits Buying lot p t)
-    of (Some w) h = (passed q limits Buying lot w (h .2), λ p t.
-        let o = ordered limits (t .are-lawful) in
-        let from = inside-from limits p (t .inside) in
-        let to = inside-to limits p (t .inside) in
-        h .3 p from (omega (arith, o .below)) (passes q limits Buying lot p t))
+    of (Some w) h = (
+      passed q limits Buying lot w (h .2),
+      λ p t.
+          let o = ordered limits (t .are-lawful) in
+          let from = inside-from limits p (t .inside) in
+          let to = inside-to limits p (t .inside) in
+          h .3 p from (omega (arith, o .below)) (passes q limits Buying lot p t),
+    )
 worth-found q limits Selling lot = of (least (trades q limits Selling lot) (limits .lowest) (limits .highest - limits .lowest)) (least-found _ _ _)
   where
     of : (o : Option ℕ) → Least (trades q limits Selling lot) (limits .lowest) (limits .highest - limits .lowest) o → Worth-is q limits Selling lot o
@@ -96,11 +100,14 @@ worth-found q limits Selling lot = of (least (trades q limits Selling lot) (limi
         let from = inside-from limits p (t .inside) in
         let to = inside-to limits p (t .inside) in
         both-ways _ (h p from (omega (arith, o .below))) (passes q limits Selling lot p t)
-    of (Some w) h = (passed q limits Selling lot w (h .2), λ p t.
-        let o = ordered limits (t .are-lawful) in
-        let from = inside-from limits p (t .inside) in
-        let to = inside-to limits p (t .inside) in
-        h .3 p from (omega (arith, o .below)) (passes q limits Selling lot p t))
+    of (Some w) h = (
+      passed q limits Selling lot w (h .2),
+      λ p t.
+          let o = ordered limits (t .are-lawful) in
+          let from = inside-from limits p (t .inside) in
+          let to = inside-to limits p (t .inside) in
+          h .3 p from (omega (arith, o .below)) (passes q limits Selling lot p t),
+    )
 
 module _ (q : ℕ → ℤ) (limits : Limits) (side : Side) (lot : ℕ) where
   pub lot-worth-is : (o : Option ℕ) → Worth-is q limits side lot o → lot-worth q limits side lot ≡ valueOr o 0

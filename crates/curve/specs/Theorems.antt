@@ -17,5 +17,5 @@ Greatest-in-margin q limits p m =
     lawful limits ≡ true → within limits p ≡ true → holds (margin q limits p) m ≡ true →
     (holds (offered q limits) m ≡ true)
     × ((n : ℤ) → holds (offered q limits) n ≡ true →
-       (surplus q limits p n ≤ℤ surplus q limits p m)
-       × ((surplus q limits p n ≡ surplus q limits p m) ↔ (holds (margin q limits p) n ≡ true)))
+    (surplus q limits p n ≤ℤ surplus q limits p m)
+    × ((surplus q limits p n ≡ surplus q limits p m) ↔ (holds (margin q limits p) n ≡ true)))

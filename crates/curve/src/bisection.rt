@@ -6,11 +6,9 @@ ghost use mathlib.Core.Bool.{true};
 ghost use Rattle.curve.specs.Worth.{Worth-is};
 ghost use Rattle.market.specs.Prices.{lawful};
 ghost use Rattle.market.specs.declared.sides.Side.the-variants.{Buying, Selling};
-
+use crate::traits::PriceCurve;
 use market::Limits;
 use market::Side;
-
-use crate::traits::PriceCurve;
 
 /// What a lot is worth within the limits, for any curve.
 pub fn bisected_worth<C: PriceCurve>(curve: &C, limits: Limits, side: Side, lot: u32) -> Option<u32>

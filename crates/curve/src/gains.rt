@@ -6,12 +6,10 @@ ghost use lib.IntN.{pos, negℤ};
 ghost use lib.Signed.{_≤ℤ_};
 ghost use Rattle.curve.specs.Gains.{sum-to, lot-worth, gain as gain-of, surplus as surplus-of};
 ghost use Rattle.curve.specs.Theorems.{Greatest-in-margin};
-
+use crate::traits::ValuedCurve;
 use market::HIGHEST_PRICE;
 use market::Limits;
 use market::Side;
-
-use crate::traits::ValuedCurve;
 
 /// The worth of the first lots of a side, added up. It goes by runs of equal worth: all lots that are traded at a
 /// lot's worth, and come after that lot, are worth the same.

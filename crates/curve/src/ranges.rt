@@ -3,10 +3,8 @@
 ghost use mathlib.Core.Path.{_≡_};
 ghost use Rattle.curve.specs.Ranges.{holds};
 ghost use Rattle.curve.specs.Margins.{margin as margin-of, offered};
-
-use market::Limits;
-
 use crate::traits::PriceCurve;
+use market::Limits;
 
 /// Lots from the least to the most, both included.
 #[derive(Clone, Copy, PartialEq, Eq, Debug)]
@@ -43,11 +41,25 @@ pub fn margin<C: PriceCurve>(curve: &C, limits: Limits, price: u32) -> LotRange
     }
     let quantity = curve.quantity(price);
     if quantity > 0 {
-        let above = if price < limits.highest { curve.quantity(price + 1) } else { 0 };
-        LotRange { least: above.max(0), most: quantity }
+        let above = if price < limits.highest {
+            curve.quantity(price + 1)
+        } else {
+            0
+        };
+        LotRange {
+            least: above.max(0),
+            most: quantity,
+        }
     } else if quantity < 0 {
-        let below = if limits.lowest < price { curve.quantity(price - 1) } else { 0 };
-        LotRange { least: quantity, most: below.min(0) }
+        let below = if limits.lowest < price {
+            curve.quantity(price - 1)
+        } else {
+            0
+        };
+        LotRange {
+            least: quantity,
+            most: below.min(0),
+        }
     } else {
         LotRange { least: 0, most: 0 }
     }

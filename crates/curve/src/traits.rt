@@ -5,11 +5,9 @@ ghost use mathlib.Core.Path.{_≡_};
 ghost use lib.IntN.{ℤ};
 ghost use Rattle.curve.specs.Laws.{Curve-laws};
 ghost use Rattle.curve.specs.Worth.{Worth-is};
-
+use crate::bisection::bisected_worth;
 use market::Limits;
 use market::Side;
-
-use crate::bisection::bisected_worth;
 
 /// A quantity for each price: above 0 the lots that are bought at that price, below 0 those that are sold.
 pub trait PriceCurve {

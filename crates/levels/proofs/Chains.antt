@@ -95,10 +95,10 @@ module _ (f : Level → Option Level → ℕ → ℤ) (rule : Rule f) where
   abbrev pub along : List Level → ℕ → ℤ
   along ls p = f (around ls p .at) (around ls p .next) p
 
-  here : (a b : Level) (ls : List Level) (p : ℕ) → p < b .price → along-from a (b ∷ ls) p ≡ f a (Some b) p
+  pub here : (a b : Level) (ls : List Level) (p : ℕ) → p < b .price → along-from a (b ∷ ls) p ≡ f a (Some b) p
   here a b ls p h = ap (λ n. f (n .at) (n .next) p) (cond-true (ltb p (b .price)) (record { at = a; next = Some b }) (around-from b ls p) (lt-ltb _ _ h))
 
-  there : (a b : Level) (ls : List Level) (p : ℕ) → b .price ≤ p → along-from a (b ∷ ls) p ≡ along-from b ls p
+  pub there : (a b : Level) (ls : List Level) (p : ℕ) → b .price ≤ p → along-from a (b ∷ ls) p ≡ along-from b ls p
   there a b ls p h = ap (λ n. f (n .at) (n .next) p) (cond-false (ltb p (b .price)) (record { at = a; next = Some b }) (around-from b ls p) (le-ltb _ _ h))
 
   along-top : (a : Level) (ls : List Level) (p : ℕ) → bounded a ≡ true → formed-after a ls ≡ true → along-from a ls p ≤ℤ a .quantity
@@ -119,10 +119,10 @@ module _ (f : Level → Option Level → ℕ → ℤ) (rule : Rule f) where
       ⊎-elim
       (λ u. let e = here a b ls p (omega arith) in let g = here a b ls r u in let o = rule .falls a b p r k (parts .0) l in omega (arith, ints))
       (λ u. let g = there a b ls r u in
-          ⊎-elim
-          (λ v. let e = here a b ls p v in let low = rule .not-under a b p k (parts .0) v in let o = along-top b ls r (n .next-bounded) (parts .1) in omega (arith, ints))
-          (λ v. let e = there a b ls p v in let o = along-falls b ls p r (n .next-bounded) (parts .1) l in omega (arith, ints))
-          (cases-lt p (b .price)))
+      ⊎-elim
+      (λ v. let e = here a b ls p v in let low = rule .not-under a b p k (parts .0) v in let o = along-top b ls r (n .next-bounded) (parts .1) in omega (arith, ints))
+      (λ v. let e = there a b ls p v in let o = along-falls b ls p r (n .next-bounded) (parts .1) l in omega (arith, ints))
+      (cases-lt p (b .price)))
       (cases-lt r (b .price))
 
   along-from-reach : (a : Level) (ls : List Level) (p : ℕ) → bounded a ≡ true → formed-after a ls ≡ true → negℤ (pos (largest (a ∷ ls))) ≤ℤ along-from a ls p

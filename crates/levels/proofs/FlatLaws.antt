@@ -13,12 +13,12 @@ use Rattle.levels.proofs.Chains.{abs-from, abs-to, abs-within}
 
 constant-laws : (q : ℤ) → natAbs q ≤ 1000000 → Curve-laws (λ p. q) (natAbs q)
 constant-laws q h = record {
-    never-rises = λ p r l. omega (arith, ints);
-    sold-within = λ p. abs-from q;
-    bought-within = λ p. abs-to q;
-    read-as-highest = λ p. refl;
-    reach-within = h;
-  }
+  never-rises = λ p r l. omega (arith, ints);
+  sold-within = λ p. abs-from q;
+  bought-within = λ p. abs-to q;
+  read-as-highest = λ p. refl;
+  reach-within = h;
+}
 
 pub flat-laws : (z : ℤ) → Curve-laws (λ p. flat-quantity z) (flat-reach z)
 flat-laws z = by (in-bounds z) refl

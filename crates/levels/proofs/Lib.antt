@@ -4,3 +4,4 @@ pub mod Chains
 pub mod Lines
 pub mod StepRule
 pub mod FlatLaws
+pub mod OnLevels

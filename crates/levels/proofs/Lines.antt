@@ -129,23 +129,23 @@ fallen-rises d t u s h l =
 
 pub line-rule : Rule on-line
 line-rule = record {
-    at-end = λ a p. refl;
-    not-over = λ a b p k f. let e = between-is a b p f in omega (arith, ints);
-    not-under = λ a b p k f l.
-        let e = between-is a b p f in
-        let n = next a b f in
-        let g = gap-is a b (n .quantity-falls) in
-        let r = n .rises in
-        let s = fallen-le (gap a b) (p - a .price) (span a b) (omega arith) (omega arith) in
-        omega (arith, ints);
-    falls = λ a b p r k f l.
-        let e = between-is a b p f in
-        let i = between-is a b r f in
-        let n = next a b f in
-        let m = n .rises in
-        let s = fallen-rises (gap a b) (p - a .price) (r - a .price) (span a b) (omega arith) (omega arith) in
-        omega (arith, ints);
-  }
+  at-end = λ a p. refl;
+  not-over = λ a b p k f. let e = between-is a b p f in omega (arith, ints);
+  not-under = λ a b p k f l.
+      let e = between-is a b p f in
+      let n = next a b f in
+      let g = gap-is a b (n .quantity-falls) in
+      let r = n .rises in
+      let s = fallen-le (gap a b) (p - a .price) (span a b) (omega arith) (omega arith) in
+      omega (arith, ints);
+  falls = λ a b p r k f l.
+      let e = between-is a b p f in
+      let i = between-is a b r f in
+      let n = next a b f in
+      let m = n .rises in
+      let s = fallen-rises (gap a b) (p - a .price) (r - a .price) (span a b) (omega arith) (omega arith) in
+      omega (arith, ints);
+}
 
 -- ---- the sums and products of the line fit
 pub record Within (m : ℕ) (z : ℤ) : Type 0 where

@@ -13,8 +13,8 @@ on-step a n p = a .quantity
 
 pub step-rule : Rule on-step
 step-rule = record {
-    at-end = λ a p. refl;
-    not-over = λ a b p k f. omega (arith, ints);
-    not-under = λ a b p k f l. next a b f .quantity-falls;
-    falls = λ a b p r k f l. omega (arith, ints);
-  }
+  at-end = λ a p. refl;
+  not-over = λ a b p k f. omega (arith, ints);
+  not-under = λ a b p k f l. next a b f .quantity-falls;
+  falls = λ a b p r k f l. omega (arith, ints);
+}

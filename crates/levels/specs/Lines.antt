@@ -46,3 +46,10 @@ on-line a (Some b) p = between a b p
 -- the quantity of a linear curve at the price p
 unfoldable pub linear : List Level → ℕ → ℤ
 linear ls p = on-line (around ls p .at) (around ls p .next) p
+
+-- r is the quantity at the price p of the line through the levels: the first level's up to that, the last level's from that on, and from a level up to the next the whole number nearest to the straight line between the two, halves upward
+pub record On-line (ls : List Level) (p : ℕ) (r : ℤ) : Type 0 where
+  pub up-to-first : (d : Level) → p ≤ getD ls 0 d .price → r ≡ getD ls 0 d .quantity
+  pub from-last : (d : Level) → getD ls (length ls - 1) d .price ≤ p → r ≡ getD ls (length ls - 1) d .quantity
+  pub from-level : (d : Level) (i : ℕ) → i + 1 < length ls → getD ls i d .price ≤ p → p < getD ls (i + 1) d .price →
+      Nearest (scaled (getD ls i d) (getD ls (i + 1) d) p) (span (getD ls i d) (getD ls (i + 1) d)) r

@@ -2,15 +2,13 @@
 
 ghost use mathlib.Core.Path.{_≡_};
 ghost use Rattle.levels.specs.Flats.{flat-quantity, flat-reach, Made-flat};
-
+use crate::level::MOST_LOTS;
 use curve::PriceCurve;
 use curve::ValuedCurve;
 use market::Limits;
 use market::Refusal;
 use market::Rule;
 use market::Side;
-
-use crate::level::MOST_LOTS;
 
 /// A curve of one quantity at all prices. A quantity out of bounds counts as 0.
 #[derive(Clone, Copy)]
@@ -24,7 +22,10 @@ impl Flat {
         ensures { λ r. ⌜ Made-flat quantity r ⌝ }
     {
         if quantity < -MOST_LOTS || quantity > MOST_LOTS {
-            return Err(Refusal { rule: Rule::Form, place: 0 });
+            return Err(Refusal {
+                rule: Rule::Form,
+                place: 0,
+            });
         }
         Ok(Flat { quantity })
     }
@@ -36,7 +37,11 @@ pub impl PriceCurve for Flat as FlatCurve {
     ghost extent = { λ c. flat-reach (c .quantity) };
 
     fn quantity(&self, _price: u32) -> i32 {
-        if self.quantity < -MOST_LOTS || self.quantity > MOST_LOTS { 0 } else { self.quantity }
+        if self.quantity < -MOST_LOTS || self.quantity > MOST_LOTS {
+            0
+        } else {
+            self.quantity
+        }
     }
 
     fn reach(&self) -> u32 {

@@ -2,12 +2,6 @@
 
 ghost use mathlib.Core.Path.{_≡_};
 ghost use Rattle.levels.specs.Kinds.{level-quantity, level-reach};
-
-use curve::PriceCurve;
-use curve::ValuedCurve;
-use market::Limits;
-use market::Side;
-
 use crate::constant::Flat;
 use crate::constant::FlatCurve;
 use crate::constant::FlatValued;
@@ -17,6 +11,10 @@ use crate::line::LinearValued;
 use crate::steps::Stepped;
 use crate::steps::SteppedCurve;
 use crate::steps::SteppedValued;
+use curve::PriceCurve;
+use curve::ValuedCurve;
+use market::Limits;
+use market::Side;
 
 /// A linear, stepped or flat curve.
 #[derive(Clone, Copy)]

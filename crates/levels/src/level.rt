@@ -2,7 +2,6 @@
 
 ghost use mathlib.Core.Path.{_≡_};
 ghost use Rattle.levels.specs.Form.{bounded, follows};
-
 use market::HIGHEST_PRICE;
 
 /// The most lots of a level or a flat curve, bought or sold.

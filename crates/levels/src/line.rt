@@ -5,19 +5,17 @@ ghost use mathlib.Core.Path.{_≡_};
 ghost use mathlib.Core.Bool.{true};
 ghost use Rattle.levels.specs.Form.{bounded, follows};
 ghost use Rattle.levels.specs.Search.{largest as largest-of};
-ghost use Rattle.levels.specs.Lines.{between as between-of, nearest as nearest-of, linear, Nearest, Moderate};
+ghost use Rattle.levels.specs.Lines.{between as between-of, nearest as nearest-of, linear, Nearest, Moderate, On-line};
 ghost use Rattle.levels.specs.Tables.{in-force-of};
 ghost use Rattle.levels.specs.Makers.{Made-linear};
-
-use curve::PriceCurve;
-use curve::ValuedCurve;
-use market::HIGHEST_PRICE;
-use market::Refusal;
-
 use crate::level::Level;
 use crate::search::around;
 use crate::search::largest;
 use crate::table::LevelTable;
+use curve::PriceCurve;
+use curve::ValuedCurve;
+use market::HIGHEST_PRICE;
+use market::Refusal;
 
 /// A curve that follows the straight line from level to level, and has the nearest level's quantity outside them.
 #[derive(Clone, Copy)]
@@ -40,7 +38,10 @@ pub impl PriceCurve for Linear as LinearCurve {
 
     ghost extent = { λ c. largest-of (in-force-of (c .table)) };
 
-    fn quantity(&self, price: u32) -> i32 {
+    fn quantity(&self, price: u32) -> i32
+        ensures value { λ r. ⌜ r ≡ linear (in-force-of (now (self .entry) .table)) (min price 10000000) ⌝ }
+        ensures line { λ r. ⌜ On-line (in-force-of (now (self .entry) .table)) (min price 10000000) r ⌝ }
+    {
         let price = price.min(HIGHEST_PRICE);
         let neighbours = around(self.table.in_force(), price);
         match neighbours.next {

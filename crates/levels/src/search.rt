@@ -2,7 +2,6 @@
 
 ghost use mathlib.Core.Path.{_≡_};
 ghost use Rattle.levels.specs.Search.{around as around-of, largest as largest-of};
-
 use crate::level::Level;
 
 /// The last level priced at most a price, or the first where there is none, and the level after that.
@@ -17,12 +16,21 @@ pub fn around(levels: &[Level], price: u32) -> Neighbours
     ensures { λ r. ⌜ r ≡ around-of (now (levels .entry)) price ⌝ }
 {
     let [first, later @ ..] = levels else {
-        return Neighbours { at: Level { price: 0, quantity: 0 }, next: None };
+        return Neighbours {
+            at: Level {
+                price: 0,
+                quantity: 0,
+            },
+            next: None,
+        };
     };
     let mut at = *first;
     for level in later {
         if price < level.price {
-            return Neighbours { at, next: Some(*level) };
+            return Neighbours {
+                at,
+                next: Some(*level),
+            };
         }
         at = *level;
     }

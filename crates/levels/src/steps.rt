@@ -3,19 +3,17 @@
 ghost use Prim.Native.Nat.{ℕ, min};
 ghost use mathlib.Core.Path.{_≡_};
 ghost use Rattle.levels.specs.Search.{largest as largest-of};
-ghost use Rattle.levels.specs.Steps.{stepped};
+ghost use Rattle.levels.specs.Steps.{stepped, On-steps};
 ghost use Rattle.levels.specs.Tables.{in-force-of};
 ghost use Rattle.levels.specs.Makers.{Made-stepped};
-
-use curve::PriceCurve;
-use curve::ValuedCurve;
-use market::HIGHEST_PRICE;
-use market::Refusal;
-
 use crate::level::Level;
 use crate::search::around;
 use crate::search::largest;
 use crate::table::LevelTable;
+use curve::PriceCurve;
+use curve::ValuedCurve;
+use market::HIGHEST_PRICE;
+use market::Refusal;
 
 /// A curve that has the quantity of the last level priced at most the price, or of the first level below that.
 #[derive(Clone, Copy)]
@@ -38,8 +36,13 @@ pub impl PriceCurve for Stepped as SteppedCurve {
 
     ghost extent = { λ c. largest-of (in-force-of (c .table)) };
 
-    fn quantity(&self, price: u32) -> i32 {
-        around(self.table.in_force(), price.min(HIGHEST_PRICE)).at.quantity
+    fn quantity(&self, price: u32) -> i32
+        ensures value { λ r. ⌜ r ≡ stepped (in-force-of (now (self .entry) .table)) (min price 10000000) ⌝ }
+        ensures steps { λ r. ⌜ On-steps (in-force-of (now (self .entry) .table)) (min price 10000000) r ⌝ }
+    {
+        around(self.table.in_force(), price.min(HIGHEST_PRICE))
+            .at
+            .quantity
     }
 
     fn reach(&self) -> u32 {

@@ -5,11 +5,9 @@ ghost use mathlib.Core.Path.{_≡_};
 ghost use lib.ListN.{length};
 ghost use Rattle.levels.specs.Form.{kept-front, Longest-front};
 ghost use Rattle.levels.specs.Tables.{in-force-of, table-of, Made};
-
+use crate::level::Level;
 use market::Refusal;
 use market::Rule;
-
-use crate::level::Level;
 
 /// The most levels that a curve has.
 pub const MOST_LEVELS: usize = 64;
@@ -17,7 +15,10 @@ pub const MOST_LEVELS: usize = 64;
 /// The place of a refusal for a count of levels that is not 1 to 64.
 pub const BAD_COUNT: u32 = 99;
 
-static NO_LEVELS: [Level; 1] = [Level { price: 0, quantity: 0 }];
+static NO_LEVELS: [Level; 1] = [Level {
+    price: 0,
+    quantity: 0,
+}];
 
 /// Levels by value. Any content has levels in force: the longest front of the first `count` that keeps the form, or
 /// the one level (0: 0).
@@ -34,13 +35,22 @@ impl LevelTable {
     {
         let count = given.len();
         if count == 0 || count > MOST_LEVELS {
-            return Err(Refusal { rule: Rule::Form, place: BAD_COUNT });
+            return Err(Refusal {
+                rule: Rule::Form,
+                place: BAD_COUNT,
+            });
         }
         let kept = front(given);
         if kept < count {
-            return Err(Refusal { rule: Rule::Form, place: kept as u32 });
+            return Err(Refusal {
+                rule: Rule::Form,
+                place: kept as u32,
+            });
         }
-        Ok(LevelTable { levels: filled(given), count: count as u8 })
+        Ok(LevelTable {
+            levels: filled(given),
+            count: count as u8,
+        })
     }
 
     /// The levels in force.
@@ -61,7 +71,10 @@ fn filled(given: &[Level]) -> [Level; 64]
     requires { ⌜ length (now given) ≤ 64 ⌝ }
     ensures { λ r. ⌜ r ≡ table-of (now (given .entry)) .levels ⌝ }
 {
-    let mut levels = [Level { price: 0, quantity: 0 }; 64];
+    let mut levels = [Level {
+        price: 0,
+        quantity: 0,
+    }; 64];
     for (i, level) in given.iter().enumerate() {
         levels[i] = *level;
     }

@@ -2,7 +2,6 @@
 
 ghost use mathlib.Core.Path.{_≡_};
 ghost use Rattle.market.specs.Prices.{lawful, within, Made};
-
 use crate::HIGHEST_PRICE;
 use crate::refusals::Refusal;
 use crate::refusals::Rule;
@@ -23,7 +22,10 @@ impl Limits {
         if limits.is_lawful() {
             Ok(limits)
         } else {
-            Err(Refusal { rule: Rule::Limits, place: 0 })
+            Err(Refusal {
+                rule: Rule::Limits,
+                place: 0,
+            })
         }
     }
 

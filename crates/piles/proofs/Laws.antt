@@ -21,12 +21,12 @@ capped-to b s r z h = omega (arith, ints, clamps)
 
 pub capped-laws : (q : ℕ → ℤ) (b s r : ℕ) → Curve-laws q r → Curve-laws (λ p. capped b s (q p)) (cap-reach b s r)
 capped-laws q b s r h = record {
-    never-rises = λ p t l. capped-le b s (q t) (q p) (h .never-rises p t l);
-    sold-within = λ p. capped-from b s r (q p) (h .sold-within p);
-    bought-within = λ p. capped-to b s r (q p) (h .bought-within p);
-    read-as-highest = λ p. ap (capped b s) (h .read-as-highest p);
-    reach-within = omega arith;
-  }
+  never-rises = λ p t l. capped-le b s (q t) (q p) (h .never-rises p t l);
+  sold-within = λ p. capped-from b s r (q p) (h .sold-within p);
+  bought-within = λ p. capped-to b s r (q p) (h .bought-within p);
+  read-as-highest = λ p. ap (capped b s) (h .read-as-highest p);
+  reach-within = omega arith;
+}
 
 -- ---- a sum, at one price
 added-le : (a b : ℕ) (x y u v : ℤ) → x ≤ℤ u → y ≤ℤ v → added a b x y ≤ℤ added a b u v
@@ -40,12 +40,12 @@ added-to a b x y = omega (arith, ints, clamps)
 
 pub added-laws : (q t : ℕ → ℤ) (a b : ℕ) → Curve-laws q a → Curve-laws t b → Curve-laws (λ p. added a b (q p) (t p)) (sum-reach a b)
 added-laws q t a b h k = record {
-    never-rises = λ p u l. added-le a b (q u) (t u) (q p) (t p) (h .never-rises p u l) (k .never-rises p u l);
-    sold-within = λ p. added-from a b (q p) (t p);
-    bought-within = λ p. added-to a b (q p) (t p);
-    read-as-highest = λ p. ap (λ x. added a b x (t p)) (h .read-as-highest p) ∙ ap (added a b (q (min p 10000000))) (k .read-as-highest p);
-    reach-within = omega arith;
-  }
+  never-rises = λ p u l. added-le a b (q u) (t u) (q p) (t p) (h .never-rises p u l) (k .never-rises p u l);
+  sold-within = λ p. added-from a b (q p) (t p);
+  bought-within = λ p. added-to a b (q p) (t p);
+  read-as-highest = λ p. ap (λ x. added a b x (t p)) (h .read-as-highest p) ∙ ap (added a b (q (min p 10000000))) (k .read-as-highest p);
+  reach-within = omega arith;
+}
 
 -- a sum of quantities within the parts' reaches is cut to 1,000,000 at most
 pub added-is : (a b : ℕ) (x y : ℤ) → negℤ (pos a) ≤ℤ x → x ≤ℤ pos a → negℤ (pos b) ≤ℤ y → y ≤ℤ pos b → maxZ (negsuc 999999) (minZ (x +ℤ y) (pos 1000000)) ≡ added a b x y

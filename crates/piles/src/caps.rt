@@ -3,7 +3,6 @@
 ghost use mathlib.Core.Path.{_≡_};
 ghost use Prim.Native.Nat.{min};
 ghost use Rattle.piles.specs.Piles.{capped, cap-reach};
-
 use curve::PriceCurve;
 use curve::ValuedCurve;
 use market::FARTHEST_REACH;
@@ -23,7 +22,11 @@ impl<C> Cap<C> {
     pub fn new(curve: C, bought: u32, sold: u32) -> Cap<C>
         ensures { λ r. ⌜ r ≡ record { curve = curve; bought = min bought 1000000; sold = min sold 1000000 } ⌝ }
     {
-        Cap { curve, bought: bought.min(FARTHEST_REACH), sold: sold.min(FARTHEST_REACH) }
+        Cap {
+            curve,
+            bought: bought.min(FARTHEST_REACH),
+            sold: sold.min(FARTHEST_REACH),
+        }
     }
 }
 

@@ -2,7 +2,6 @@
 
 ghost use mathlib.Core.Path.{_≡_};
 ghost use Rattle.piles.specs.Piles.{added, sum-reach, Summed};
-
 use curve::PriceCurve;
 use curve::ValuedCurve;
 use market::FARTHEST_REACH;
@@ -22,7 +21,10 @@ impl<A: PriceCurve + Drop, B: PriceCurve + Drop> Sum<A, B> {
         ensures { λ r. ⌜ Summed (A·PriceCurve .extent first) (B·PriceCurve .extent second) first second r ⌝ }
     {
         if first.reach() + second.reach() > FARTHEST_REACH {
-            return Err(Refusal { rule: Rule::SumReach, place: 0 });
+            return Err(Refusal {
+                rule: Rule::SumReach,
+                place: 0,
+            });
         }
         Ok(Sum { first, second })
     }

@@ -39,5 +39,5 @@ returns g c =
     let net : toZ w64 (ofZ w64 (toZ w64 (ofZ w64 (c .gain .result)) -ℤ toZ w64 (ofZ w64 (toZ w64 (c .min .result) *ℤ toZ w64 (ofZ w64 (toZ w32 (ofZ w32 (c .args .matched)))))))) ≡ c .gain .result -ℤ cost = omega (arith, ints) in
     record {
       value = net ∙ ap (λ x. x -ℤ cost) (b .value) ∙ ap (λ x. gain q (c .args .limits) x -ℤ cost) (toZ-ofZ w32 (c .args .matched) (c .fits .matched));
-      greatest = greatest-in-margin q (g .C·PriceCurve·met .kept (c .args .curve .now) .never-rises) (c .args .limits) (c .args .price) (c .args .matched)
+      greatest = greatest-in-margin q (g .C·PriceCurve·met .kept (c .args .curve .now) .never-rises) (c .args .limits) (c .args .price) (c .args .matched);
     }

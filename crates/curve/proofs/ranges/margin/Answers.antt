@@ -27,9 +27,9 @@ returns-after-price-limits g c =
     let i : within limits p ≡ true = sym (c .if-not-contains .ensures tt) in
     let from = inside-from limits p i in
     let above-is : c .if-price-limits .above ≡ counted q limits (p + 1) = elim (c .if-price-limits .came) [
-        then-price-limits w ↦
-            let fits : toZ w32 (ofZ w32 (w .quantity-above .result)) ≡ w .quantity-above .result = omega (arith, ints) in
-            sym (c .if-price-limits .above-is) ∙ w .above-is ∙ fits ∙ w .quantity-above .ensures ∙ sym (counted-in q limits (p + 1) (inside limits (p + 1) (omega arith) (omega arith)))
+      | then-price-limits w ↦
+          let fits : toZ w32 (ofZ w32 (w .quantity-above .result)) ≡ w .quantity-above .result = omega (arith, ints) in
+          sym (c .if-price-limits .above-is) ∙ w .above-is ∙ fits ∙ w .quantity-above .ensures ∙ sym (counted-in q limits (p + 1) (inside limits (p + 1) (omega arith) (omega arith)))
       | else-price-limits w ↦ sym (c .if-price-limits .above-is) ∙ w .above-is ∙ sym (counted-past q limits (p + 1) (omega arith))
     ] in
     let most-is : toZ w32 (ofZ w32 (c .quantity-quantity .result)) ≡ c .quantity-quantity .result = omega (arith, ints) in
@@ -45,9 +45,9 @@ returns-after-limits-price g c =
     let i : within limits p ≡ true = sym (c .if-not-contains .ensures tt) in
     let to = inside-to limits p i in
     let below-is : c .if-limits-price .below ≡ counted-below q limits p = elim (c .if-limits-price .came) [
-        then-limits-price w ↦
-            let fits : toZ w32 (ofZ w32 (w .quantity-below .result)) ≡ w .quantity-below .result = omega (arith, ints) in
-            sym (c .if-limits-price .below-is) ∙ w .below-is ∙ fits ∙ w .quantity-below .ensures ∙ sym (below-in q limits p (omega arith) to)
+      | then-limits-price w ↦
+          let fits : toZ w32 (ofZ w32 (w .quantity-below .result)) ≡ w .quantity-below .result = omega (arith, ints) in
+          sym (c .if-limits-price .below-is) ∙ w .below-is ∙ fits ∙ w .quantity-below .ensures ∙ sym (below-in q limits p (omega arith) to)
       | else-limits-price w ↦ sym (c .if-limits-price .below-is) ∙ w .below-is ∙ sym (below-out q limits p (omega arith))
     ] in
     let least-is : toZ w32 (ofZ w32 (c .quantity-quantity .result)) ≡ c .quantity-quantity .result = omega (arith, ints) in

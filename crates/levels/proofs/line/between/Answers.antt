@@ -34,7 +34,7 @@ sum-is x y u v e f h k = omega (arith, ints, h .low, h .high, k .low, k .high)
 
 scaled-is : (a b : Level) (p t : ℕ) → Line a b p → t ≡ p - a .price → p < 4294967296 →
     toZ w64 (ofZ w64 (toZ w64 (ofZ w64 (toZ w64 (ofZ w64 (toZ w32 (ofZ w32 (a .quantity)))) *ℤ toZ w64 (b .price - a .price)))
-      +ℤ toZ w64 (ofZ w64 (toZ w64 (ofZ w64 (toZ w64 (ofZ w64 (toZ w32 (ofZ w32 (b .quantity)))) -ℤ toZ w64 (ofZ w64 (toZ w32 (ofZ w32 (a .quantity)))))) *ℤ toZ w64 t))))
+    +ℤ toZ w64 (ofZ w64 (toZ w64 (ofZ w64 (toZ w64 (ofZ w64 (toZ w32 (ofZ w32 (b .quantity)))) -ℤ toZ w64 (ofZ w64 (toZ w32 (ofZ w32 (a .quantity)))))) *ℤ toZ w64 t))))
     ≡ scaled a b p
 scaled-is a b p t l same fits =
     sum-is _ _ (a .quantity *ℤ pos (span a b)) ((b .quantity -ℤ a .quantity) *ℤ pos (p - a .price))
