@@ -101,7 +101,7 @@ module _ (f : Level → Option Level → ℕ → ℤ) (rule : Rule f) where
   pub there : (a b : Level) (ls : List Level) (p : ℕ) → b .price ≤ p → along-from a (b ∷ ls) p ≡ along-from b ls p
   there a b ls p h = ap (λ n. f (n .at) (n .next) p) (cond-false (ltb p (b .price)) (record { at = a; next = Some b }) (around-from b ls p) (le-ltb _ _ h))
 
-  along-top : (a : Level) (ls : List Level) (p : ℕ) → bounded a ≡ true → formed-after a ls ≡ true → along-from a ls p ≤ℤ a .quantity
+  pub along-top : (a : Level) (ls : List Level) (p : ℕ) → bounded a ≡ true → formed-after a ls ≡ true → along-from a ls p ≤ℤ a .quantity
   along-top a [] p k h = let e = rule .at-end a p in omega (arith, ints)
   along-top a (b ∷ ls) p k h =
       let parts = and-parts (follows a b) (formed-after b ls) h in

@@ -5,3 +5,4 @@ pub mod Lines
 pub mod StepRule
 pub mod FlatLaws
 pub mod OnLevels
+pub mod StepWorth

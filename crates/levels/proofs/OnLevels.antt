@@ -20,7 +20,7 @@ use Rattle.levels.proofs.Lines.{line-rule, is-nearest, fallen, gap, between-is
 use Rattle.levels.proofs.StepRule.{on-step, step-rule}
 
 -- no level is priced below the first
-rises-at : (a : Level) (ls : List Level) (d : Level) (i : ℕ) → formed-after a ls ≡ true → i ≤ length ls → a .price ≤ getD (a ∷ ls) i d .price
+pub rises-at : (a : Level) (ls : List Level) (d : Level) (i : ℕ) → formed-after a ls ≡ true → i ≤ length ls → a .price ≤ getD (a ∷ ls) i d .price
 rises-at a ls d zero h l = omega arith
 rises-at a [] d (suc i) h l = absurd (omega arith)
 rises-at a (b ∷ ls) d (suc i) h l =
