@@ -4,7 +4,7 @@ use mathlib.Core.Bool.{true}
 use mathlib.Core.Logic.{⊎-elim}
 use Prim.Native.Nat.{ℕ, _+_, _≤_, _<_}
 use native.Mathlib.Omega.{arith}
-use lib.IntN.{ℤ, pos, negsuc}
+use lib.IntN.{ℤ, pos, negsuc, negℤ}
 use lib.Signed.{_≤ℤ_, mag}
 use mir.Syntax.{w32}
 use mir.Val.{toZ, ofZ}
@@ -23,6 +23,13 @@ use Rattle.curve.proofs.Worths.{inside, inside-from, inside-to}
 -- the lots of a quantity that a call answered
 pub lots-of : (side : Side) (n : ℕ) (r z : ℤ) → n ≡ traded side (toZ w32 (ofZ w32 r)) → mag r < 2147483648 → r ≡ z → n ≡ traded side z
 lots-of side n r z e fits same = e ∙ ap (traded side) (toZ-ofZ w32 r (record { sfits = fits }) ∙ same)
+
+-- no more lots are traded than the reach
+pub traded-within : (side : Side) (z : ℤ) (r : ℕ) → negℤ (pos r) ≤ℤ z → z ≤ℤ pos r → traded side z ≤ r
+traded-within Buying (pos n) r l u = omega (arith, ints)
+traded-within Buying (negsuc n) r l u = omega arith
+traded-within Selling (pos n) r l u = omega arith
+traded-within Selling (negsuc n) r l u = omega (arith, ints)
 
 pub more-bought : (x y : ℤ) → x ≤ℤ y → traded Buying x ≤ traded Buying y
 more-bought (pos a) (pos b) h = omega (arith, ints)

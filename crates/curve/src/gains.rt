@@ -1,6 +1,6 @@
 //! What a match gains, and what is left of that after its price.
 
-ghost use Prim.Native.Nat.{_≤_, _*_};
+ghost use Prim.Native.Nat.{_≤_};
 ghost use mathlib.Core.Path.{_≡_};
 ghost use lib.IntN.{pos, negℤ};
 ghost use lib.Signed.{_≤ℤ_};
@@ -15,7 +15,7 @@ use market::Side;
 /// lot's worth, and come after that lot, are worth the same.
 pub fn worth_of_lots<C: ValuedCurve>(curve: &C, limits: Limits, side: Side, lots: u32) -> u64
     ensures value { λ r. ⌜ r ≡ sum-to (lot-worth (C·PriceCurve .meaning (now (curve .entry))) limits side) lots ⌝ }
-    ensures bound { λ r. ⌜ r ≤ 10000000 * lots ⌝ }
+    ensures bound { λ r. ⌜ r ≤ 10000000000000 ⌝ }
 {
     let mut total: u64 = 0;
     let mut counted: u32 = 0;
@@ -33,8 +33,8 @@ pub fn worth_of_lots<C: ValuedCurve>(curve: &C, limits: Limits, side: Side, lots
 /// What a match gains: the worth of the lots bought, or minus the worth of the lots sold. In tenths of a kuruş.
 pub fn gain<C: ValuedCurve>(curve: &C, limits: Limits, matched: i32) -> i64
     ensures value { λ r. ⌜ r ≡ gain-of (C·PriceCurve .meaning (now (curve .entry))) limits matched ⌝ }
-    ensures low_bound { λ r. ⌜ negℤ (pos 21474836480000000) ≤ℤ r ⌝ }
-    ensures high_bound { λ r. ⌜ r ≤ℤ pos 21474836480000000 ⌝ }
+    ensures low_bound { λ r. ⌜ negℤ (pos 10000000000000) ≤ℤ r ⌝ }
+    ensures high_bound { λ r. ⌜ r ≤ℤ pos 10000000000000 ⌝ }
 {
     if matched < 0 {
         -(worth_of_lots(curve, limits, Side::Selling, matched.unsigned_abs()) as i64)

@@ -1,18 +1,17 @@
 use Prim.Native.Nat.{ℕ, _+_, _-_, _*_, _≤_, _<_}
 use mathlib.Core.Path.{_≡_, sym}
 use native.Mathlib.Omega.{arith}
-use native.Mathlib.Nat.{mul-le-mul-right}
 use Rattle.std.specs.declared.option.Option.the-variants.{Some, None}
 use Rattle.market.specs.Lots.{traded}
 use Rattle.curve.specs.Gains.{sum-to, lot-worth}
 use Rattle.curve.specs.Worth.{Worth-is}
 use Rattle.curve.proofs.Worths.{ordered, inside-to, same-worth, no-worth, lot-worth-is}
-use Rattle.curve.proofs.Bests.{lots-of}
+use Rattle.curve.proofs.Bests.{lots-of, traded-within}
 use Rattle.curve.proofs.Sums.{sum-to-none, sum-to-upto, run-le}
 use Rattle.curve.proofs.gains.worth_of_lots.Needs as need
 
 pub loop-counted-holds : need.loop-counted-holds
-loop-counted-holds g c = (sym (sum-to-none _), omega arith, omega arith)
+loop-counted-holds g c = (sym (sum-to-none _), omega arith, omega arith, omega arith)
 
 pub add-total : need.add-total
 add-total g c =
@@ -38,7 +37,9 @@ loop-counted-again g c =
     let run = sum-to-upto (lot-worth q limits side) (c .loop-counted .counted) (c .min-end .result) (c .in-Some .price) end-is
     (λ j from upto. lot-worth-is q limits side j (Some (c .in-Some .price)) (same-worth q limits side (c .loop-counted .counted + 1) j (c .in-Some .price) w (omega arith) (omega arith))) in
     let le = run-le (c .in-Some .price) (c .loop-counted .counted) (c .min-end .result) (omega (arith, o .highest-within)) in
-    (omega arith, omega arith, omega arith)
+    let laws = g .C·PriceCurve·met .kept (c .args .curve .now) in
+    let few = traded-within side (q (c .in-Some .price)) (g .C·PriceCurve .extent (c .args .curve .now)) (laws .sold-within (c .in-Some .price)) (laws .bought-within (c .in-Some .price)) in
+    (omega arith, omega arith, omega arith, omega (arith, laws .reach-within))
 
 pub returns-in-rest : need.returns-in-rest
 returns-in-rest g c =
