@@ -1,0 +1,50 @@
+-- Sums over the curves of an hour.
+use mathlib.Core.Path.{_≡_, refl, sym, ap, _∙_}
+use mathlib.Core.List.{List, [], _∷_, _++_}
+use Prim.Native.Nat.{ℕ, _+_, _≤_, _<_}
+use native.Mathlib.Omega.{arith}
+use lib.IntN.{ℤ, pos, negsuc, negℤ, _+ℤ_}
+use lib.Signed.{_≤ℤ_}
+use lib.ListN.{length, getD, take}
+use Rattle.std.specs.shelf.Lists.{sumBy}
+use Rattle.std.proofs.shelf.Lists.{take-more}
+use Rattle.std.proofs.shelf.Signed.{ints}
+use Rattle.std.proofs.shelf.Sums.{sumBy-more}
+use Rattle.market.specs.declared.sides.Side.{Side}
+use Rattle.market.specs.declared.sides.Side.the-variants.{Buying, Selling}
+use Rattle.market.specs.Lots.{traded}
+use Rattle.dufnask.specs.declared.hour.Totals.{Totals}
+use Rattle.dufnask.specs.declared.hour.TotalRange.{TotalRange}
+use Rattle.dufnask.specs.Hours.{total}
+
+-- no more lots are traded than a curve reaches
+pub lots-within : (side : Side) (z : ℤ) (r : ℕ) → negℤ (pos r) ≤ℤ z → z ≤ℤ pos r → traded side z ≤ r
+lots-within Buying (pos n) r l u = omega (arith, ints)
+lots-within Buying (negsuc n) r l u = omega arith
+lots-within Selling (pos n) r l u = omega arith
+lots-within Selling (negsuc n) r l u = omega (arith, ints)
+
+-- ---- one more, of numbers and of integers
+pub sum-step : {X : Type 0} (f : X → ℕ) (xs : List X) (i : ℕ) (x : X) → i < length xs → x ≡ getD xs i x → (a n : ℕ) → a ≡ sumBy f (take i xs) → n ≡ f x → a + n ≡ sumBy f (take (i + 1) xs)
+sum-step f xs i x h is a n ea en =
+    let e = sumBy-more f xs i x h in
+    let v : n ≡ f (getD xs i x) = en ∙ ap f is in
+    omega arith
+
+module _ {X : Type 0} (f : X → ℤ) where
+  pub total-push : (xs : List X) (x : X) → total f (xs ++ x ∷ []) ≡ total f xs +ℤ f x
+  total-push [] x = omega (arith, ints)
+  total-push (y ∷ ys) x = let e = total-push ys x in omega (arith, ints)
+
+  pub total-step : (xs : List X) (i : ℕ) (x : X) → i < length xs → x ≡ getD xs i x → (a z : ℤ) → a ≡ total f (take i xs) → z ≡ f x → a +ℤ z ≡ total f (take (i + 1) xs)
+  total-step xs i x h is a z ea ez =
+      let e = ap (total f) (take-more xs i x h) ∙ total-push (take i xs) (getD xs i x) in
+      let v : z ≡ f (getD xs i x) = ez ∙ ap f is in
+      omega (arith, ints)
+
+-- ---- pairs of sums
+pub same-totals : (a b c d : ℕ) → a ≡ b → c ≡ d → _≡_ {A = Totals} (record { bought = a; sold = c }) (record { bought = b; sold = d })
+same-totals a b c d e h = λ i. record { bought = e i; sold = h i }
+
+pub same-range : (a b c d : ℤ) → a ≡ b → c ≡ d → _≡_ {A = TotalRange} (record { least = a; most = c }) (record { least = b; most = d })
+same-range a b c d e h = λ i. record { least = e i; most = h i }
