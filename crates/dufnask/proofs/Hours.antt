@@ -1,9 +1,10 @@
 -- Sums over the curves of an hour.
 use mathlib.Core.Path.{_≡_, refl, sym, ap, _∙_}
 use mathlib.Core.List.{List, [], _∷_, _++_}
-use Prim.Native.Nat.{ℕ, _+_, _≤_, _<_}
+use Prim.Native.Nat.{ℕ, zero, suc, _+_, _≤_, _<_}
+use native.Mathlib.Numerals.{add-one}
 use native.Mathlib.Omega.{arith}
-use lib.IntN.{ℤ, pos, negsuc, negℤ, _+ℤ_}
+use lib.IntN.{ℤ, pos, negsuc, negℤ, _+ℤ_, +ℤ-comm}
 use lib.Signed.{_≤ℤ_}
 use lib.ListN.{length, getD, take}
 use Rattle.std.specs.shelf.Lists.{sumBy}
@@ -15,7 +16,9 @@ use Rattle.market.specs.declared.sides.Side.the-variants.{Buying, Selling}
 use Rattle.market.specs.Lots.{traded}
 use Rattle.dufnask.specs.declared.hour.Totals.{Totals}
 use Rattle.dufnask.specs.declared.hour.TotalRange.{TotalRange}
-use Rattle.dufnask.specs.Hours.{total}
+use Rattle.market.specs.declared.limits.Limits.{Limits}
+use Rattle.curve.specs.Gains.{gain}
+use Rattle.dufnask.specs.Hours.{total, gains}
 
 -- no more lots are traded than a curve reaches
 pub lots-within : (side : Side) (z : ℤ) (r : ℕ) → negℤ (pos r) ≤ℤ z → z ≤ℤ pos r → traded side z ≤ r
@@ -48,3 +51,13 @@ same-totals a b c d e h = λ i. record { bought = e i; sold = h i }
 
 pub same-range : (a b c d : ℤ) → a ≡ b → c ≡ d → _≡_ {A = TotalRange} (record { least = a; most = c }) (record { least = b; most = d })
 same-range a b c d e h = λ i. record { least = e i; most = h i }
+
+-- ---- gains of curves and their matches
+module _ {C : Type 0} (q : C → ℕ → ℤ) (limits : Limits) where
+  pub gains-more : (cs : List C) (ms : List ℤ) (i : ℕ) (d : C) (e : ℤ) → i < length cs → i < length ms → gains q limits (take (i + 1) cs) (take (i + 1) ms) ≡ gains q limits (take i cs) (take i ms) +ℤ gain (q (getD cs i d)) limits (getD ms i e)
+  gains-more [] ms i d e l k = absurd (omega arith)
+  gains-more (c ∷ cs) [] i d e l k = absurd (omega arith)
+  gains-more (c ∷ cs) (m ∷ ms) zero d e l k = +ℤ-comm (gain (q c) limits m) (pos 0)
+  gains-more (c ∷ cs) (m ∷ ms) (suc i) d e l k = rw (add-one (suc i)) (
+      let rest = rw (add-one i) at (gains-more cs ms i d e (omega arith) (omega arith)) in
+      omega (arith, ints))

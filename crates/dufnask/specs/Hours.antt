@@ -15,6 +15,7 @@ use Rattle.market.specs.Lots.{traded}
 use Rattle.market.specs.Prices.{within}
 use Rattle.curve.specs.declared.ranges.LotRange.{LotRange}
 use Rattle.curve.specs.Margins.{margin}
+use Rattle.curve.specs.Gains.{gain}
 use Rattle.curve.specs.Ranges.{holds}
 use Rattle.dufnask.specs.declared.hour.Totals.{Totals}
 use Rattle.dufnask.specs.declared.hour.TotalRange.{TotalRange}
@@ -68,3 +69,9 @@ Within-each r (x ∷ xs) (m ∷ ms) = (holds (r x) m ≡ true) × Within-each r 
 -- a match for each, within its range, and in all 0 where the ranges are even
 abbrev pub Matched : {X : Type 0} → (X → LotRange) → List X → List ℤ → Type 0
 Matched r xs ms = Within-each r xs ms × (Even (ranges r xs) → total (λ m. m) ms ≡ pos 0)
+
+-- what the matches of the curves gain in all
+abbrev pub gains : {C : Type 0} → (C → ℕ → ℤ) → Limits → List C → List ℤ → ℤ
+gains q limits [] ms = pos 0
+gains q limits (c ∷ cs) [] = pos 0
+gains q limits (c ∷ cs) (m ∷ ms) = gain (q c) limits m +ℤ gains q limits cs ms

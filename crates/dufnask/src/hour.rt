@@ -7,7 +7,7 @@ ghost use lib.ListN.{length};
 ghost use lib.IntN.{pos, negℤ};
 ghost use lib.Signed.{_≤ℤ_};
 ghost use Rattle.market.specs.Prices.{lawful};
-ghost use Rattle.dufnask.specs.Hours.{totals as totals-of, margins as margins-of, lots-of, Next-change, Balancing, Matched, filled as filled-of};
+ghost use Rattle.dufnask.specs.Hours.{totals as totals-of, margins as margins-of, lots-of, Next-change, Balancing, Matched, filled as filled-of, gains as gains-of};
 ghost use Rattle.curve.specs.Margins.{margin as margin-of};
 ghost use Rattle.std.specs.Of.Vec.{vec-items, vec-len};
 ghost use Rattle.std.specs.Vec.{made};
@@ -144,13 +144,13 @@ fn filled(range: LotRange, missing: i64) -> i32
 
 /// The gains of the matches of the curves, added up. In tenths of a kuruş.
 pub fn total_gain<C: ValuedCurve>(curves: &[C], limits: Limits, matched: &[i32]) -> i64
-    requires { ⌜ length (now curves) ≤ 4096 ⌝ }
+    requires few { ⌜ length (now curves) ≤ 4096 ⌝ }
+    requires each { ⌜ length (now matched) ≡ length (now curves) ⌝ }
+    ensures { λ r. ⌜ r ≡ gains-of (C·PriceCurve .meaning) limits (now (curves .entry)) (now (matched .entry)) ⌝ }
 {
     let mut total: i64 = 0;
     for (index, curve) in curves.iter().enumerate() {
-        if let Some(lots) = matched.get(index) {
-            total += gain(curve, limits, *lots);
-        }
+        total += gain(curve, limits, matched[index]);
     }
     total
 }
