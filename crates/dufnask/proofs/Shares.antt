@@ -9,12 +9,12 @@ use lib.Signed.{_≤ℤ_}
 use lib.ListN.{length, getD, take, drop}
 use lib.Seq.{take-all}
 use Rattle.std.specs.Numbers.{minZ, maxZ}
-use Rattle.std.proofs.shelf.Lists.{take-more, drop-more, drop-all}
+use Rattle.std.proofs.shelf.Lists.{take-more, drop-more, drop-all, append-assoc, append-nil}
 use Rattle.std.proofs.shelf.Signed.{ints, clamps}
 use Rattle.curve.specs.declared.ranges.LotRange.{LotRange}
 use Rattle.curve.specs.Ranges.{holds}
 use Rattle.curve.proofs.Margins.{holds-from}
-use Rattle.dufnask.specs.Hours.{total, ranges, Even, filled, Within-each, Matched}
+use Rattle.dufnask.specs.Hours.{total, ranges, Even, filled, Within-each, handed-out, Matched}
 use Rattle.dufnask.proofs.Hours.{total-push}
 use Rattle.dufnask.proofs.Falling.{total-le}
 
@@ -37,11 +37,12 @@ filled-holds range missing o = holds-from range (filled range missing) (omega (a
 pub record Sofar {X : Type 0} (r : X → LotRange) (xs : List X) (i : ℕ) (ms : List ℤ) (missing : ℤ) : Type 0 where
   pub matched : Within-each r (take i xs) ms
   pub balance : (total (λ m. m) ms +ℤ total (λ x. r x .least) (drop i xs)) +ℤ missing ≡ pos 0
+  pub handed : handed-out r (negℤ (total (λ x. r x .least) xs)) xs ≡ ms ++ handed-out r missing (drop i xs)
   pub enough : Even (ranges r xs) → (pos 0 ≤ℤ missing) × ((missing +ℤ total (λ x. r x .least) (drop i xs)) ≤ℤ total (λ x. r x .most) (drop i xs))
 
 module _ {X : Type 0} (r : X → LotRange) (upright : (x : X) → r x .least ≤ℤ r x .most) (xs : List X) where
   pub none-yet : (missing : ℤ) → missing ≡ negℤ (total (λ x. r x .least) xs) → Sofar r xs 0 [] missing
-  none-yet missing e = record { matched = tt; balance = omega (arith, ints); enough = λ even. let l = even .0 in let m = even .1 in (omega (arith, ints), omega (arith, ints)) }
+  none-yet missing e = record { matched = tt; balance = omega (arith, ints); handed = ap (λ z. handed-out r z xs) (sym e); enough = λ even. let l = even .0 in let m = even .1 in (omega (arith, ints), omega (arith, ints)) }
 
   module _ (i : ℕ) (x : X) (lt : i < length xs) (is : x ≡ getD xs i x) where
     left : (f : X → ℤ) → total f (drop i xs) ≡ f x +ℤ total f (drop (i + 1) xs)
@@ -54,7 +55,7 @@ module _ {X : Type 0} (r : X → LotRange) (upright : (x : X) → r x .least ≤
     spent missing rest-least rest-most h o e = let u = upright x in omega (arith, ints, clamps)
 
     pub one-more : (ms : List ℤ) (missing : ℤ) → Sofar r xs i ms missing → Sofar r xs (i + 1) (ms ++ filled (r x) missing ∷ []) (missing -ℤ (filled (r x) missing -ℤ r x .least))
-    one-more ms missing old = record { matched = matched; balance = balance; enough = enough }
+    one-more ms missing old = record { matched = matched; balance = balance; handed = handed; enough = enough }
       where
         front : take (i + 1) xs ≡ take i xs ++ x ∷ []
         front = take-more xs i x lt ∙ ap (λ y. take i xs ++ y ∷ []) (sym is)
@@ -67,6 +68,12 @@ module _ {X : Type 0} (r : X → LotRange) (upright : (x : X) → r x .least ≤
           where
             balanced : (f : ℤ) → total (λ m. m) (ms ++ f ∷ []) ≡ total (λ m. m) ms +ℤ f → (total (λ m. m) (ms ++ f ∷ []) +ℤ total (λ y. r y .least) (drop (i + 1) xs)) +ℤ (missing -ℤ (f -ℤ r x .least)) ≡ pos 0
             balanced f p = let l = left (λ y. r y .least) in let b = old .balance in omega (arith, ints)
+
+        handed : handed-out r (negℤ (total (λ y. r y .least) xs)) xs ≡ (ms ++ filled (r x) missing ∷ []) ++ handed-out r (missing -ℤ (filled (r x) missing -ℤ r x .least)) (drop (i + 1) xs)
+        handed =
+            old .handed
+            ∙ ap (λ ys. ms ++ handed-out r missing ys) (drop-more xs i x lt ∙ ap (λ y. y ∷ drop (i + 1) xs) (sym is))
+            ∙ sym (append-assoc ms (filled (r x) missing ∷ []) (handed-out r (missing -ℤ (filled (r x) missing -ℤ r x .least)) (drop (i + 1) xs)))
 
         enough : Even (ranges r xs) → (pos 0 ≤ℤ (missing -ℤ (filled (r x) missing -ℤ r x .least))) × (((missing -ℤ (filled (r x) missing -ℤ r x .least)) +ℤ total (λ y. r y .least) (drop (i + 1) xs)) ≤ℤ total (λ y. r y .most) (drop (i + 1) xs))
         enough even = (positive (filled (r x) missing) (share missing (old .enough even .0)), spent missing _ _ (old .enough even .0) (total-le _ _ upright (drop (i + 1) xs)) (room (old .enough even .1)))
@@ -90,7 +97,9 @@ module _ {X : Type 0} (r : X → LotRange) (upright : (x : X) → r x .least ≤
   all-done i ms missing h old =
       let none : drop i xs ≡ [] = drop-all i xs h in
       let no-least : total (λ x. r x .least) (drop i xs) ≡ pos 0 = ap (total (λ x. r x .least)) none in
-      let no-most : total (λ x. r x .most) (drop i xs) ≡ pos 0 = ap (total (λ x. r x .most)) none in (
-        subst (λ ys. Within-each r ys ms) (take-all i xs h) (old .matched),
-        λ even. let b = old .balance in let e = old .enough even .0 in let f = old .enough even .1 in omega (arith, ints),
-      )
+      let no-most : total (λ x. r x .most) (drop i xs) ≡ pos 0 = ap (total (λ x. r x .most)) none in
+      record {
+        within-each = subst (λ ys. Within-each r ys ms) (take-all i xs h) (old .matched);
+        in-all = λ even. let b = old .balance in let e = old .enough even .0 in let f = old .enough even .1 in omega (arith, ints);
+        from-first = sym (old .handed ∙ ap (λ ys. ms ++ handed-out r missing ys) none ∙ append-nil ms);
+      }

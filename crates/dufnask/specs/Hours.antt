@@ -3,7 +3,7 @@ use Prim.Native.Nat.{ℕ, _≤_, _<_}
 use mathlib.Core.Path.{_≡_}
 use mathlib.Core.Bool.{true}
 use mathlib.Core.List.{List, [], _∷_}
-use lib.IntN.{ℤ, pos, _+ℤ_, _-ℤ_}
+use lib.IntN.{ℤ, pos, negℤ, _+ℤ_, _-ℤ_}
 use lib.Signed.{_≤ℤ_}
 use Rattle.std.specs.Numbers.{minZ, maxZ}
 use Rattle.std.specs.shelf.Lists.{sumBy}
@@ -66,9 +66,16 @@ Within-each r [] (m ∷ ms) = ⊥
 Within-each r (x ∷ xs) [] = ⊥
 Within-each r (x ∷ xs) (m ∷ ms) = (holds (r x) m ≡ true) × Within-each r xs ms
 
--- a match for each, within its range, and in all 0 where the ranges are even
-abbrev pub Matched : {X : Type 0} → (X → LotRange) → List X → List ℤ → Type 0
-Matched r xs ms = Within-each r xs ms × (Even (ranges r xs) → total (λ m. m) ms ≡ pos 0)
+-- the least of each range, with what is missing handed out within the ranges from the first on
+abbrev pub handed-out : {X : Type 0} → (X → LotRange) → ℤ → List X → List ℤ
+handed-out r missing [] = []
+handed-out r missing (x ∷ xs) = filled (r x) missing ∷ handed-out r (missing -ℤ (filled (r x) missing -ℤ r x .least)) xs
+
+-- the matches: each within its range, in all 0 where the ranges are even, and what is missing to 0 after the least of each handed out from the first on
+pub record Matched {X : Type 0} (r : X → LotRange) (xs : List X) (ms : List ℤ) : Type 0 where
+  pub within-each : Within-each r xs ms
+  pub in-all : Even (ranges r xs) → total (λ m. m) ms ≡ pos 0
+  pub from-first : ms ≡ handed-out r (negℤ (total (λ x. r x .least) xs)) xs
 
 -- what the matches of the curves gain in all
 abbrev pub gains : {C : Type 0} → (C → ℕ → ℤ) → Limits → List C → List ℤ → ℤ

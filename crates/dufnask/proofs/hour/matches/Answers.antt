@@ -66,4 +66,4 @@ returns g c =
     let price = c .args .price in
     let cs = c .args .curves .now in
     let done = all-done (range g limits price) (upright g limits price) cs (c .loop-curve .curve-index) (vec-items (c .loop-curve .matched)) _ (c .loop-curve-test .left) (c .loop-curve .inv .2) in
-    record { len = c .loop-curve .matched .ok .0 ∙ each-length (range g limits price) cs (vec-items (c .loop-curve .matched)) (done .0); matched = done }
+    record { len = c .loop-curve .matched .ok .0 ∙ each-length (range g limits price) cs (vec-items (c .loop-curve .matched)) (done .within-each); matched = done }
