@@ -30,7 +30,7 @@ use Rattle.curve.proofs.Parts.{counted-in, counted-past, below-in, below-out}
 use Rattle.curve.proofs.Hills.{climb, Hill, best-on-hill, bought-net, sold-net}
 
 -- ---- a number is its part above 0 less its part below 0, one of which is 0
-sides : (z : ℤ) → (up z ≡ 0) ⊎ (down z ≡ 0)
+pub sides : (z : ℤ) → (up z ≡ 0) ⊎ (down z ≡ 0)
 sides (pos n) = inr refl
 sides (negsuc n) = inl refl
 

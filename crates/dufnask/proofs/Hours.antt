@@ -1,31 +1,20 @@
 -- Sums over the curves of an hour.
 use mathlib.Core.Path.{_≡_, refl, sym, ap, _∙_}
 use mathlib.Core.List.{List, [], _∷_, _++_}
-use Prim.Native.Nat.{ℕ, zero, suc, _+_, _≤_, _<_}
+use Prim.Native.Nat.{ℕ, zero, suc, _+_, _<_}
 use native.Mathlib.Numerals.{add-one}
 use native.Mathlib.Omega.{arith}
-use lib.IntN.{ℤ, pos, negsuc, negℤ, _+ℤ_, +ℤ-comm}
-use lib.Signed.{_≤ℤ_}
+use lib.IntN.{ℤ, pos, _+ℤ_, +ℤ-comm}
 use lib.ListN.{length, getD, take}
 use Rattle.std.specs.shelf.Lists.{sumBy}
 use Rattle.std.proofs.shelf.Lists.{take-more}
 use Rattle.std.proofs.shelf.Signed.{ints}
 use Rattle.std.proofs.shelf.Sums.{sumBy-more}
-use Rattle.market.specs.declared.sides.Side.{Side}
-use Rattle.market.specs.declared.sides.Side.the-variants.{Buying, Selling}
-use Rattle.market.specs.Lots.{traded}
 use Rattle.dufnask.specs.declared.hour.Totals.{Totals}
 use Rattle.dufnask.specs.declared.hour.TotalRange.{TotalRange}
 use Rattle.market.specs.declared.limits.Limits.{Limits}
 use Rattle.curve.specs.Gains.{gain}
 use Rattle.dufnask.specs.Hours.{total, gains}
-
--- no more lots are traded than a curve reaches
-pub lots-within : (side : Side) (z : ℤ) (r : ℕ) → negℤ (pos r) ≤ℤ z → z ≤ℤ pos r → traded side z ≤ r
-lots-within Buying (pos n) r l u = omega (arith, ints)
-lots-within Buying (negsuc n) r l u = omega arith
-lots-within Selling (pos n) r l u = omega arith
-lots-within Selling (negsuc n) r l u = omega (arith, ints)
 
 -- ---- one more, of numbers and of integers
 pub sum-step : {X : Type 0} (f : X → ℕ) (xs : List X) (i : ℕ) (x : X) → i < length xs → x ≡ getD xs i x → (a n : ℕ) → a ≡ sumBy f (take i xs) → n ≡ f x → a + n ≡ sumBy f (take (i + 1) xs)

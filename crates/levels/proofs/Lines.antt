@@ -1,7 +1,6 @@
 -- The straight line between two levels, rounded to the nearest lot, never rises and stays between their quantities.
 use mathlib.Core.Path.{_≡_, refl, sym, ap, subst, _∙_}
 use mathlib.Core.Bool.{true}
-use mathlib.Core.Logic.{_⊎_, inl, inr}
 use Prim.Native.Nat.{ℕ, zero, suc, _+_, _-_, _*_, _/_, _%_, _≤_, _<_}
 use native.Mathlib.Omega.{arith}
 use native.Mathlib.Nat.{mul-add, mul-comm, mul-assoc, mul-suc, mul-zero, zero-mul}
@@ -13,6 +12,7 @@ use Rattle.std.specs.declared.option.Option.{Option}
 use Rattle.std.specs.declared.option.Option.the-variants.{Some, None}
 use Rattle.std.proofs.shelf.Bits.{mul-le, div-mul-add, div-below, le-div, div-add-mod', mod-below}
 use Rattle.std.proofs.shelf.Signed.{ints}
+use Rattle.curve.proofs.Margins.{sides}
 use Rattle.levels.specs.declared.level.Level.{Level}
 use Rattle.levels.specs.Form.{bounded, follows}
 use Rattle.levels.specs.Lines.{span, scaled, nearest, Nearest, between, on-line}
@@ -32,10 +32,6 @@ neg-times (suc d) t = omega (arith, ints)
 times-neg : (p k : ℕ) → pos p *ℤ negℤ (pos k) ≡ negℤ (pos (p * k))
 times-neg p zero = let e = mul-zero p in omega (arith, ints)
 times-neg p (suc k) = omega (arith, ints)
-
-sides : (z : ℤ) → (up z ≡ 0) ⊎ (down z ≡ 0)
-sides (pos n) = inr refl
-sides (negsuc n) = inl refl
 
 pub twice : (z : ℤ) (s : ℕ) → pos 2 *ℤ (z *ℤ pos s) ≡ pos (2 * s) *ℤ z
 twice (pos n) s = let e = mul-comm n s in let f = mul-assoc 2 s n in omega (arith, ints)

@@ -3,6 +3,9 @@
 ghost use Prim.Native.Nat.{ℕ, min, _<_};
 ghost use mathlib.Core.Path.{_≡_};
 ghost use mathlib.Core.Bool.{true};
+ghost use lib.IntN.{pos};
+ghost use lib.Signed.{_<ℤ_};
+ghost use Rattle.std.specs.Numbers.{divEuclid};
 ghost use Rattle.levels.specs.Form.{bounded, follows};
 ghost use Rattle.levels.specs.Search.{largest as largest-of};
 ghost use Rattle.levels.specs.Lines.{between as between-of, nearest as nearest-of, linear, Nearest, Moderate, On-line};
@@ -77,5 +80,13 @@ fn nearest(numerator: i64, denominator: u32) -> i64
     ensures nearest { λ r. ⌜ Nearest numerator denominator r ⌝ }
 {
     let whole = denominator as i64;
-    (2 * numerator + whole).div_euclid(2 * whole)
+    floored(2 * numerator + whole, 2 * whole)
+}
+
+/// The greatest whole number that is at most a fraction, below 0 too.
+fn floored(numerator: i64, denominator: i64) -> i64
+    requires { ⌜ pos 0 <ℤ denominator ⌝ }
+    ensures { λ r. ⌜ r ≡ divEuclid numerator denominator ⌝ }
+{
+    numerator.div_euclid(denominator)
 }

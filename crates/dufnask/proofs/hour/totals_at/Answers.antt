@@ -6,7 +6,8 @@ use Rattle.std.specs.shelf.Lists.{sumBy}
 use Rattle.market.specs.declared.sides.Side.the-variants.{Buying, Selling}
 use Rattle.market.specs.Lots.{traded}
 use Rattle.curve.proofs.Bests.{lots-of}
-use Rattle.dufnask.proofs.Hours.{lots-within, sum-step, same-totals}
+use Rattle.curve.proofs.Bests.{traded-within}
+use Rattle.dufnask.proofs.Hours.{sum-step, same-totals}
 use Rattle.dufnask.proofs.hour.totals_at.Needs as need
 
 pub loop-curve-again : need.loop-curve-again
@@ -19,8 +20,8 @@ loop-curve-again g c =
     let inv = c .loop-curve .inv in
     let bought-is : c .lots .result ≡ traded Buying (q x p) = lots-of Buying _ _ _ (c .lots .ensures) (c .quantity-quantity .ok) (c .quantity-quantity .ensures) in
     let sold-is : c .lots-in-loop-curve .result ≡ traded Selling (q x p) = lots-of Selling _ _ _ (c .lots-in-loop-curve .ensures) (c .quantity-quantity .ok) (c .quantity-quantity .ensures) in
-    let bought-few = lots-within Buying (q x p) _ (laws .sold-within p) (laws .bought-within p) in
-    let sold-few = lots-within Selling (q x p) _ (laws .sold-within p) (laws .bought-within p) in (
+    let bought-few = traded-within Buying (q x p) _ (laws .sold-within p) (laws .bought-within p) in
+    let sold-few = traded-within Selling (q x p) _ (laws .sold-within p) (laws .bought-within p) in (
       omega arith,
       omega arith,
       sum-step (λ y. traded Buying (q y p)) (c .args .curves .now) (c .loop-curve .curve-index) x (c .loop-curve-test .taken) (c .curve-item .is) _ _ (inv .2) bought-is,

@@ -15,8 +15,8 @@ returns c =
     let n = c .args .numerator in
     let s = c .args .denominator in
     let m = c .pre .1 in
-    let out : toZ w64 (ofZ w64 (c .div-euclid .result)) ≡ c .div-euclid .result = omega (arith, ints) in
+    let out : toZ w64 (ofZ w64 (c .floored .result)) ≡ c .floored .result = omega (arith, ints) in
     let top : toZ w64 (ofZ w64 (toZ w64 (ofZ w64 (pos 2 *ℤ toZ w64 (ofZ w64 n))) +ℤ toZ w64 s)) ≡ pos 2 *ℤ n +ℤ pos s = omega (arith, ints) in
     let bottom : toZ w64 (ofZ w64 (pos 2 *ℤ toZ w64 s)) ≡ pos 2 *ℤ pos s = omega (arith, ints) in
-    let value : toZ w64 (ofZ w64 (c .div-euclid .result)) ≡ nearest n s = out ∙ c .div-euclid .ensures ∙ ap (λ x. divEuclid x (toZ w64 (ofZ w64 (pos 2 *ℤ toZ w64 s)))) top ∙ ap (divEuclid (pos 2 *ℤ n +ℤ pos s)) bottom in
+    let value : toZ w64 (ofZ w64 (c .floored .result)) ≡ nearest n s = out ∙ c .floored .ensures ∙ ap (λ x. divEuclid x (toZ w64 (ofZ w64 (pos 2 *ℤ toZ w64 s)))) top ∙ ap (divEuclid (pos 2 *ℤ n +ℤ pos s)) bottom in
     record { value = value; nearest = subst (Nearest n s) (sym value) (is-nearest n s (c .pre .0)) }
