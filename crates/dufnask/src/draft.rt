@@ -1,5 +1,6 @@
 //! Curves as they are written, and how they are made.
 
+ghost use Rattle.dufnask.specs.Drafts.{Made-part, Made-draft};
 use curve::PriceCurve;
 use curve::ValuedCurve;
 use levels::Flat;
@@ -25,7 +26,9 @@ pub enum Part {
 
 impl Part {
     /// The curve that is written, or its refusal.
-    pub fn make(&self) -> Result<LevelCurve, Refusal> {
+    pub fn make(&self) -> Result<LevelCurve, Refusal>
+        ensures { λ r. ⌜ Made-part (now (self .entry)) r ⌝ }
+    {
         match self {
             Part::Linear(levels) => Ok(LevelCurve::Linear(Linear::new(levels.as_slice())?)),
             Part::Stepped(levels) => Ok(LevelCurve::Stepped(Stepped::new(levels.as_slice())?)),
@@ -45,7 +48,9 @@ pub struct Draft {
 
 impl Draft {
     /// The curve that is written, or the first refusal: of its first part, its second part or their sum.
-    pub fn make(&self) -> Result<BidCurve, Refusal> {
+    pub fn make(&self) -> Result<BidCurve, Refusal>
+        ensures { λ r. ⌜ Made-draft (now (self .entry)) r ⌝ }
+    {
         let first = self.first.make()?;
         let second = self.second.make()?;
         let sum = Sum::new(first, second)?;
