@@ -17,6 +17,7 @@ use Rattle.market.specs.Prices.{lawful, within}
 use Rattle.market.specs.Lots.{traded}
 use Rattle.curve.specs.Worth.{Trades, No-better, Worth-is, trades, greatest, least, worth}
 use Rattle.curve.specs.Gains.{lot-worth}
+use Rattle.curve.specs.Theorems.{Worth-found}
 use Rattle.curve.proofs.Searches.{Greatest, Least, greatest-found, least-found}
 
 -- ---- limits by their parts
@@ -124,3 +125,8 @@ module _ (q : ℕ → ℤ) (limits : Limits) (side : Side) (lot : ℕ) where
           let o = ordered limits (h .0 .are-lawful) in
           let to = inside-to limits w (h .0 .inside) in
           omega (arith, o .highest-within)
+
+pub worth-by-rule : (q : ℕ → ℤ) (limits : Limits) (side : Side) → Worth-found q limits side
+worth-by-rule q limits side lot o =
+    (λ h. one-worth q limits side lot o (worth q limits side lot) h (worth-found q limits side lot),
+    λ e. subst (Worth-is q limits side lot) (sym e) (worth-found q limits side lot))

@@ -7,6 +7,9 @@ use lib.IntN.{ℤ}
 use lib.Signed.{_≤ℤ_}
 use Rattle.market.specs.declared.limits.Limits.{Limits}
 use Rattle.market.specs.Prices.{lawful, within}
+use Rattle.std.specs.declared.option.Option.{Option}
+use Rattle.market.specs.declared.sides.Side.{Side}
+use Rattle.curve.specs.Worth.{Worth-is, worth}
 use Rattle.curve.specs.Ranges.{holds}
 use Rattle.curve.specs.Margins.{margin, offered}
 use Rattle.curve.specs.Gains.{surplus}
@@ -19,3 +22,7 @@ Greatest-in-margin q limits p m =
     × ((n : ℤ) → holds (offered q limits) n ≡ true →
     (surplus q limits p n ≤ℤ surplus q limits p m)
     × ((surplus q limits p n ≡ surplus q limits p m) ↔ (holds (margin q limits p) n ≡ true)))
+
+-- the value that sums of worths go by is the worth of the rule, for every lot, and nothing else is
+abbrev pub Worth-found : (ℕ → ℤ) → Limits → Side → Type 0
+Worth-found q limits side = (lot : ℕ) (o : Option ℕ) → Worth-is q limits side lot o ↔ (o ≡ worth q limits side lot)

@@ -5,7 +5,7 @@ ghost use mathlib.Core.Path.{_≡_};
 ghost use lib.IntN.{pos, negℤ};
 ghost use lib.Signed.{_≤ℤ_};
 ghost use Rattle.curve.specs.Gains.{sum-to, lot-worth, gain as gain-of, surplus as surplus-of};
-ghost use Rattle.curve.specs.Theorems.{Greatest-in-margin};
+ghost use Rattle.curve.specs.Theorems.{Greatest-in-margin, Worth-found};
 use crate::traits::ValuedCurve;
 use market::HIGHEST_PRICE;
 use market::Limits;
@@ -15,6 +15,7 @@ use market::Side;
 /// lot's worth, and come after that lot, are worth the same.
 pub fn worth_of_lots<C: ValuedCurve>(curve: &C, limits: Limits, side: Side, lots: u32) -> u64
     ensures value { λ r. ⌜ r ≡ sum-to (lot-worth (C·PriceCurve .meaning (now (curve .entry))) limits side) lots ⌝ }
+    ensures by_rule { λ _. ⌜ Worth-found (C·PriceCurve .meaning (now (curve .entry))) limits side ⌝ }
     ensures bound { λ r. ⌜ r ≤ 10000000000000 ⌝ }
 {
     let mut total: u64 = 0;

@@ -1,11 +1,11 @@
 use Prim.Native.Nat.{ℕ, _+_, _-_, _*_, _≤_, _<_}
-use mathlib.Core.Path.{_≡_, sym}
+use mathlib.Core.Path.{_≡_, sym, ap, _∙_}
 use native.Mathlib.Omega.{arith}
 use Rattle.std.specs.declared.option.Option.the-variants.{Some, None}
 use Rattle.market.specs.Lots.{traded}
 use Rattle.curve.specs.Gains.{sum-to, lot-worth}
 use Rattle.curve.specs.Worth.{Worth-is}
-use Rattle.curve.proofs.Worths.{ordered, inside-to, same-worth, no-worth, lot-worth-is}
+use Rattle.curve.proofs.Worths.{ordered, inside-to, same-worth, no-worth, lot-worth-is, worth-by-rule}
 use Rattle.curve.proofs.Bests.{lots-of, traded-within}
 use Rattle.curve.proofs.Sums.{sum-to-none, sum-to-upto, run-le}
 use Rattle.curve.proofs.gains.worth_of_lots.Needs as need
@@ -49,4 +49,15 @@ returns-in-rest g c =
     let w : Worth-is q limits side (c .loop-counted .counted + 1) None = c .in-rest .ensures tt in
     let run = sum-to-upto (lot-worth q limits side) (c .loop-counted .counted) (c .args .lots) 0 (omega arith)
     (λ j from upto. lot-worth-is q limits side j None (no-worth q limits side (c .loop-counted .counted + 1) j (omega arith) w (omega arith))) in
-    record { value = omega arith; bound = omega arith }
+    record { value = omega arith; by-rule = worth-by-rule q limits side; bound = omega arith }
+
+pub returns-after-loop-counted : need.returns-after-loop-counted
+returns-after-loop-counted g c =
+    let q = g .C·PriceCurve .meaning (c .args .curve .now) in
+    let inv = c .loop-counted .inv in
+    let end : c .loop-counted .counted ≡ c .args .lots = omega arith in
+    record {
+      value = inv .0 ∙ ap (sum-to (lot-worth q (c .args .limits) (c .args .side))) end;
+      by-rule = worth-by-rule q (c .args .limits) (c .args .side);
+      bound = omega arith;
+    }
