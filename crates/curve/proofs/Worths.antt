@@ -127,6 +127,7 @@ module _ (q : ℕ → ℤ) (limits : Limits) (side : Side) (lot : ℕ) where
           omega (arith, o .highest-within)
 
 pub worth-by-rule : (q : ℕ → ℤ) (limits : Limits) (side : Side) → Worth-found q limits side
-worth-by-rule q limits side lot o =
-    (λ h. one-worth q limits side lot o (worth q limits side lot) h (worth-found q limits side lot),
-    λ e. subst (Worth-is q limits side lot) (sym e) (worth-found q limits side lot))
+worth-by-rule q limits side lot o = (
+  λ h. one-worth q limits side lot o (worth q limits side lot) h (worth-found q limits side lot),
+  λ e. subst (Worth-is q limits side lot) (sym e) (worth-found q limits side lot),
+)

@@ -24,7 +24,8 @@ pub fn meaning(rule: Rule) -> &'static str {
     match rule {
         Rule::Limits => "the lowest price is not below the highest, or that is above 10,000,000",
         Rule::Identity => "the bid's number or its participant is out of bounds",
-        Rule::Form => "the form of the curve, the block or the flexible bid is broken",
+        Rule::Form =>
+            "the form is broken: place 99 is a bad count, any other the first bad level or hour",
         Rule::Price => "the price lies outside the limits",
         Rule::NumberStands => "the number stands already",
         Rule::MostBids => "the participant has the most bids of that kind",
