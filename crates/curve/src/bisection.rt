@@ -62,5 +62,5 @@ fn least_selling<C: PriceCurve>(curve: &C, limits: Limits, lot: u32) -> Option<u
             high = middle;
         }
     }
-    Some(low)
+    Some(high)
 }

@@ -31,6 +31,4 @@ pub returns : need.returns
 returns g c =
     let q = g .C·PriceCurve .meaning (c .args .curve .now) in
     let inv = c .loop-low .inv in
-    let same : c .loop-low .high ≡ c .loop-low .low = omega arith in
-    let enough : c .args .lot ≤ traded Selling (q (c .loop-low .low)) = rw same at (inv .3) in
-    selling-some q (g .C·PriceCurve·met .kept (c .args .curve .now) .never-rises) (c .args .limits) (c .args .lot) (c .pre .1) (c .pre .0) (c .loop-low .low) (inv .0) (omega arith) enough (λ p under from. inv .4 p under from)
+    selling-some q (g .C·PriceCurve·met .kept (c .args .curve .now) .never-rises) (c .args .limits) (c .args .lot) (c .pre .1) (c .pre .0) (c .loop-low .high) (omega arith) (inv .2) (inv .3) (λ p under from. inv .4 p (omega arith) from)
