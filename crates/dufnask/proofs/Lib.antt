@@ -1,4 +1,0 @@
-pub mod Hours
-pub mod Widths
-pub mod Falling
-pub mod Shares

@@ -1,10 +1,8 @@
 //! `dufnask`: what the curves of an hour come to.
 
 mod bench;
-mod draft;
 mod failure;
 mod help;
-mod hour;
 mod reading;
 mod report;
 mod sheet;

@@ -1,7 +1,5 @@
 //! Reading the text of an hour.
 
-use crate::draft::Draft;
-use crate::draft::Part;
 use crate::failure::Failure;
 use crate::failure::Reason;
 use crate::failure::ReasonFromAlloc;
@@ -10,6 +8,8 @@ use crate::failure::Wanted;
 use crate::sheet::Sheet;
 use levels::Level;
 use market::Limits;
+use merit::Draft;
+use merit::Part;
 use std::alloc::AllocError;
 use std::alloc::Global;
 

@@ -1,15 +1,8 @@
 //! The report on an hour.
 
-use crate::draft::BidCurve;
 use crate::failure::Failure;
 use crate::failure::FailureFromAlloc;
 use crate::failure::FailureFromStream;
-use crate::hour::balancing_price;
-use crate::hour::matches;
-use crate::hour::next_change;
-use crate::hour::total_gain;
-use crate::hour::totals_at;
-use crate::hour::traded;
 use crate::sheet::Entry;
 use crate::sheet::Outcome;
 use crate::sheet::Sheet;
@@ -24,6 +17,13 @@ use curve::surplus;
 use levels::LevelPriceCurve;
 use levels::LevelValued;
 use market::Limits;
+use merit::BidCurve;
+use merit::balancing_price;
+use merit::matches;
+use merit::next_change;
+use merit::total_gain;
+use merit::totals_at;
+use merit::traded;
 use piles::CapCurve;
 use piles::CapValued;
 use piles::SumCurve;

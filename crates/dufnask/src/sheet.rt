@@ -2,12 +2,12 @@
 
 ghost use Prim.Native.Nat.{_≤_};
 ghost use Rattle.std.specs.Of.Vec.{vec-len};
-use crate::draft::BidCurve;
-use crate::draft::Draft;
 use crate::failure::Reason;
 use crate::failure::ReasonFromRefused;
 use market::Limits;
 use market::Refusal;
+use merit::BidCurve;
+use merit::Draft;
 use std::alloc::Global;
 
 /// The most curves that are read.

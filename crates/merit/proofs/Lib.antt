@@ -1,0 +1,4 @@
+pub mod Hours
+pub mod Widths
+pub mod Falling
+pub mod Shares
