@@ -1,5 +1,9 @@
 //! Reading the text of an hour.
 
+ghost use mathlib.Core.Path.{_≡_};
+ghost use mathlib.Core.Bool.{true};
+ghost use Rattle.std.specs.Vec.{made};
+ghost use Rattle.market.specs.Prices.{lawful};
 use crate::failure::Failure;
 use crate::failure::Reason;
 use crate::failure::ReasonFromAlloc;
@@ -71,7 +75,9 @@ fn words_of<'a>(heap: Global, line: &'a str) -> Result<Vec<&'a str>, AllocError>
 }
 
 /// The limits of a line: `limits PMIN PMAX`.
-fn read_limits(heap: Global, words: &[&str]) -> Result<Limits, Reason> {
+fn read_limits(heap: Global, words: &[&str]) -> Result<Limits, Reason>
+    ensures { λ r. ⌜ made r (λ limits. lawful limits ≡ true) ⌝ }
+{
     let [first, rest @ ..] = words else {
         return Err(Reason::NoLimits);
     };

@@ -1,7 +1,11 @@
 //! The hour that was read: its limits, its bids and the curves of those that stand.
 
 ghost use Prim.Native.Nat.{_≤_};
-ghost use Rattle.std.specs.Of.Vec.{vec-len};
+ghost use mathlib.Core.Path.{_≡_};
+ghost use mathlib.Core.Bool.{true};
+ghost use mathlib.Core.List.{[]};
+ghost use Rattle.market.specs.Prices.{lawful};
+ghost use Rattle.std.specs.Of.Vec.{vec-len, vec-items};
 use crate::failure::Reason;
 use crate::failure::ReasonFromRefused;
 use market::Limits;
@@ -34,11 +38,15 @@ pub struct Sheet {
     pub entries: Vec<Entry>,
     pub curves: Vec<BidCurve>,
     ghost few: { (vec-len curves ≤ vec-len entries) × (vec-len entries ≤ 4096) },
+    ghost are_lawful: { lawful limits ≡ true },
 }
 
 impl Sheet {
     /// An hour without bids.
-    pub fn new(heap: Global, limits: Limits) -> Sheet {
+    pub fn new(heap: Global, limits: Limits) -> Sheet
+        requires { ⌜ lawful limits ≡ true ⌝ }
+        ensures { λ r. ⌜ r .limits ≡ limits ⌝ ∗ ⌜ vec-items (r .entries) ≡ [] ⌝ ∗ ⌜ vec-items (r .curves) ≡ [] ⌝ }
+    {
         Sheet {
             limits,
             entries: Vec::new(heap),
@@ -47,7 +55,9 @@ impl Sheet {
     }
 
     /// Adds the bid of a line: it stands if its curve is made, and is refused otherwise.
-    pub fn add(&mut self, name: String, draft: &Draft) -> Result<(), Reason> {
+    pub fn add(&mut self, name: String, draft: &Draft) -> Result<(), Reason>
+        ensures { λ _. ⌜ now (self .exit) .limits ≡ now (self .entry) .limits ⌝ }
+    {
         if self.entries.len() >= MOST_CURVES {
             return Err(Reason::TooManyCurves);
         }
