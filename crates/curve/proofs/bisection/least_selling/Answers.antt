@@ -8,21 +8,21 @@ use Rattle.curve.proofs.bisection.least_selling.Goals as goal
 pub returns-then-lots-lot : goal.returns-then-lots-lot
 returns-then-lots-lot g c =
     let q = g.C.PriceCurve.meaning c.args.curve.now in
-    let lots-is : c.lots.result ≡ traded Selling (q c.args.limits.highest) = lots_of Selling _ _ _ c.lots.ensures c.quantity.type-inv c.quantity.ensures in
+    let lots-is : c.lots.result ≡ traded Selling (q c.args.limits.highest) = lots_of Selling _ _ _ c.lots.ensures c.quantity.type_inv c.quantity.ensures in
     selling_none q (g.met.C.PriceCurve.kept c.args.curve.now).never_rises c.args.limits c.args.lot (omega arith)
 
 pub loop-low-init : goal.loop-low-init
 loop-low-init g c =
     let q = g.C.PriceCurve.meaning c.args.curve.now in
     let o = ordered c.args.limits c.requires.1 in
-    let lots-is : c.lots.result ≡ traded Selling (q c.args.limits.highest) = lots_of Selling _ _ _ c.lots.ensures c.quantity.type-inv c.quantity.ensures in
+    let lots-is : c.lots.result ≡ traded Selling (q c.args.limits.highest) = lots_of Selling _ _ _ c.lots.ensures c.quantity.type_inv c.quantity.ensures in
     (omega arith, omega (arith, o.below), omega arith, omega arith, λ p under from. absurd (omega arith))
 
 pub loop-low-preserved-then-lots-lot-2 : goal.loop-low-preserved-then-lots-lot-2
 loop-low-preserved-then-lots-lot-2 g c =
     let q = g.C.PriceCurve.meaning c.args.curve.now in
     let middle = c.loop-low.low + (c.loop-low.high - c.loop-low.low) / 2 in
-    let lots-is : c.lots-in-loop-low.result ≡ traded Selling (q middle) = lots_of Selling _ _ _ c.lots-in-loop-low.ensures c.quantity-in-loop-low.type-inv c.quantity-in-loop-low.ensures in
+    let lots-is : c.lots-in-loop-low.result ≡ traded Selling (q middle) = lots_of Selling _ _ _ c.lots-in-loop-low.ensures c.quantity-in-loop-low.type_inv c.quantity-in-loop-low.ensures in
     (omega arith, omega arith, omega arith, c.loop-low.invariant.3, λ p under from. let fewer = sold_rises q (g.met.C.PriceCurve.kept c.args.curve.now).never_rises p middle (omega arith) in omega arith)
 
 pub returns : goal.returns

@@ -18,11 +18,11 @@ cost-is g c = ap (λ x. x *ℤ to_z w64 (of_z w64 (to_z w32 (of_z w32 c.args.mat
 small : (g : given.Over) (c : goal.After-min g) → Small (pos (min c.args.price 10000000) *ℤ c.args.matched)
 small g c = cost_small (min c.args.price 10000000) c.args.matched (omega arith) c.ranges.matched
 
-pub overflow-mul-result : goal.overflow-mul-result
-overflow-mul-result g c = let e = cost-is g c in let s = small g c in omega (arith, ints)
+pub overflow_mul-result : goal.overflow_mul-result
+overflow_mul-result g c = let e = cost-is g c in let s = small g c in omega (arith, ints)
 
-pub overflow-sub-result : goal.overflow-sub-result
-overflow-sub-result g c = let e = cost-is g c in let s = small g c in let b = c.gain.ensures in omega (arith, ints)
+pub overflow_sub-result : goal.overflow_sub-result
+overflow_sub-result g c = let e = cost-is g c in let s = small g c in let b = c.gain.ensures in omega (arith, ints)
 
 pub returns : goal.returns
 returns g c =

@@ -6,7 +6,7 @@ use Rattle.day.proofs.running.make.Goals as goal
 
 pub returns-in-Open : goal.returns-in-Open
 returns-in-Open g c =
-    subst (λ z. MovesOn c.args.call z (record { hourly = c.args.hourly.now; blocks = c.args.blocks.now; flexible = c.args.flexible.now }) c.make-on-open.result.1 c.make-on-open.result.0 (record { hourly = c.make-on-open.new.hourly; blocks = c.make-on-open.new.blocks; flexible = c.make-on-open.new.flexible })) (sym c.in-Open.is) c.make-on-open.ensures
+    subst (λ z. MovesOn c.args.call z (record { hourly = c.args.hourly.now; blocks = c.args.blocks.now; flexible = c.args.flexible.now }) c.make_on_open.result.1 c.make_on_open.result.0 (record { hourly = c.make_on_open.new.hourly; blocks = c.make_on_open.new.blocks; flexible = c.make_on_open.new.flexible })) (sym c.in-Open.is) c.make_on_open.ensures
 
 pub returns-in-Closed : goal.returns-in-Closed
 returns-in-Closed g c =

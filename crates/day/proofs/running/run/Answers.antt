@@ -4,8 +4,8 @@ use Rattle.day.proofs.running.run.Goals as goal
 
 pub loop-index-init : goal.loop-index-init
 loop-index-init g c =
-    running_none (record { lowest = c.args.lowest; highest = c.args.highest }) c.args.steps.now c.in-ok-open.field-0 (record { hourly = c.args.hourly.now; blocks = c.args.blocks.now; flexible = c.args.flexible.now })
-    (c.in-ok-open.ensures.since (record { hourly = c.args.hourly.now; blocks = c.args.blocks.now; flexible = c.args.flexible.now }))
+    running_none (record { lowest = c.args.lowest; highest = c.args.highest }) c.args.steps.now c.in_ok-open.field-0 (record { hourly = c.args.hourly.now; blocks = c.args.blocks.now; flexible = c.args.flexible.now })
+    (c.in_ok-open.ensures.since (record { hourly = c.args.hourly.now; blocks = c.args.blocks.now; flexible = c.args.flexible.now }))
 
 pub loop-index-preserved : goal.loop-index-preserved
 loop-index-preserved g c =

@@ -9,7 +9,7 @@ loop-level-preserved c =
     let xs = c.args.levels.now in
     let q = (get_or xs c.loop-level.level-index zero_level).quantity in
     let f : SFits w32 q = search rules in
-    let abs_is : c.unsigned-abs.result ≡ nat_abs q = c.unsigned-abs.ensures.value ∙ ap nat_abs (to_z-of_z w32 q f) in
+    let abs_is : c.unsigned_abs.result ≡ nat_abs q = c.unsigned_abs.ensures.value ∙ ap nat_abs (to_z-of_z w32 q f) in
     let step = largest_step xs c.loop-level.level-index c.loop-level.most zero_level c.loop-level-test.true in
     let inv = c.loop-level.invariant in
     omega arith

@@ -15,22 +15,22 @@ pub loop-low-init : goal.loop-low-init
 loop-low-init g c =
     (omega arith, λ ok. let o = ordered c.args.limits ok in (omega arith, omega (arith, o.below), least_top g.C.PriceCurve.meaning (falls g) c.args.limits c.args.curves.now, λ p from under. absurd (omega arith)))
 
-pub loop-low-preserved-then-total-margin-gt0 : goal.loop-low-preserved-then-total-margin-gt0
-loop-low-preserved-then-total-margin-gt0 g c =
+pub loop-low-preserved-then-total_margin-gt0 : goal.loop-low-preserved-then-total_margin-gt0
+loop-low-preserved-then-total_margin-gt0 g c =
     let q = g.C.PriceCurve.meaning in
     let limits = c.args.limits in
     let cs = c.args.curves.now in
     let inv = c.loop-low.invariant in
     let middle = c.loop-low.low + (c.loop-low.high - c.loop-low.low) / 2 in
-    let short : pos 0 <ℤ (margins q limits cs middle).least = let e = ap (λ r. r.least) c.total-margin.ensures.value in omega (arith, ints) in (
+    let short : pos 0 <ℤ (margins q limits cs middle).least = let e = ap (λ r. r.least) c.total_margin.ensures.value in omega (arith, ints) in (
       inv.0,
       λ ok.
           let old = inv.1 ok in
           (omega arith, omega arith, old.2, λ p from under. let more = least_falls q (falls g) limits cs p middle from (omega arith) (omega arith) in omega (arith, ints)),
     )
 
-pub returns-then-total-margin-lt0 : goal.returns-then-total-margin-lt0
-returns-then-total-margin-lt0 g c ok p inside even =
+pub returns-then-total_margin-lt0 : goal.returns-then-total_margin-lt0
+returns-then-total_margin-lt0 g c ok p inside even =
     let q = g.C.PriceCurve.meaning in
     let limits = c.args.limits in
     let cs = c.args.curves.now in
@@ -38,7 +38,7 @@ returns-then-total-margin-lt0 g c ok p inside even =
     let low = c.loop-low.low in
     let from = inside_from limits p inside in
     let to = inside_to limits p inside in
-    let sells : (margins q limits cs low).most <ℤ pos 0 = let e = ap (λ r. r.most) c.total-margin-2.ensures.value in omega (arith, ints) in
+    let sells : (margins q limits cs low).most <ℤ pos 0 = let e = ap (λ r. r.most) c.total_margin-2.ensures.value in omega (arith, ints) in
     ⊎_elim
     (λ l. let short = old.3 p from l in let least = even.0 in absurd (omega (arith, ints)))
     (λ l. let fewer = most_falls q (falls g) limits cs low p old.0 l to in let most = even.1 in absurd (omega (arith, ints)))

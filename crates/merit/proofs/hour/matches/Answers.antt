@@ -23,14 +23,14 @@ loop-curve-init g c =
     let limits = c.args.limits in
     let price = c.args.price in
     let cs = c.args.curves.now in
-    let missing = to_z w64 (of_z w64 (pos 0 -ℤ to_z w64 (of_z w64 c.total-margin-missing.result.least))) in
-    let bounds = c.total-margin-missing.ensures in
+    let missing = to_z w64 (of_z w64 (pos 0 -ℤ to_z w64 (of_z w64 c.total_margin-missing.result.least))) in
+    let bounds = c.total_margin-missing.ensures in
     let least-is = ap (λ t. t.least) bounds.value in
     let missing-is : missing ≡ neg_ℤ (total (λ x. (range g limits price x).least) cs) = omega (arith, ints) in
     (omega (arith, ints), omega (arith, ints), subst (λ ms. Sofar (range g limits price) cs 0 ms missing) (sym c.new-matched.ensures.items) (none_yet (range g limits price) (upright g limits price) cs missing missing-is))
 
-pub returns-in-err-push : goal.returns-in-err-push
-returns-in-err-push g c = record { len = IfOk-from_err _ _ c.from-residual.ensures.0; matched = IfOk-from_err _ _ c.from-residual.ensures.0 }
+pub returns-in_err-push : goal.returns-in_err-push
+returns-in_err-push g c = record { len = IfOk-from_err _ _ c.from-residual.ensures.0; matched = IfOk-from_err _ _ c.from-residual.ensures.0 }
 
 pub loop-curve-preserved : goal.loop-curve-preserved
 loop-curve-preserved g c =
@@ -39,9 +39,9 @@ loop-curve-preserved g c =
     let cs = c.args.curves.now in
     let x = c.curve-item.result in
     let inv = c.loop-curve.invariant in
-    let lots-fit : SFits w32 c.filled-lots.result = record { sfits = c.filled-lots.type-inv } in
+    let lots-fit : SFits w32 c.filled-lots.result = record { sfits = c.filled-lots.type_inv } in
     let least_fits : SFits w32 c.margin-range.result.least = search rules in
-    let pushed = chosen _ _ _ _ c.push.ensures.items (ap is_ok c.in-ok-push.was) in
+    let pushed = chosen _ _ _ _ c.push.ensures.items (ap is_ok c.in_ok-push.was) in
     let few : c.loop-curve.curve-index < 4096 = omega arith in
     let after = after_is _ c.filled-lots.result c.margin-range.result.least lots-fit least_fits c.loop-curve.curve-index few inv.0 inv.1 in (
       after_low _ c.filled-lots.result c.margin-range.result.least lots-fit least_fits c.loop-curve.curve-index few inv.0 inv.1 _ after,

@@ -20,8 +20,8 @@ returns-then-price-limits g c n from to =
       | then-price-limits-via-then-price-limits w ↦ ap (totals q cs) (omega (arith, w.if-price-limits.true))
       | then-price-limits-via-else-price-limits+then-eq w ↦
           let same = w.if-eq.ensures in
-          let there = w.totals-at.ensures in
-          let here = c.totals-at-here.ensures in
+          let there = w.totals_at.ensures in
+          let here = c.totals_at-here.ensures in
           between q (falls g) cs price n highest from to (same_totals _ _ _ _ (sym (ap (λ t. t.bought) there) ∙ same.0.0 refl ∙ ap (λ t. t.bought) here) (sym (ap (λ t. t.sold) there) ∙ same.1.0 refl ∙ ap (λ t. t.sold) here))
     ]
 

@@ -25,6 +25,6 @@ returns g c =
     let whole = take_all c.loop-curve.curve-index c.args.curves.now c.loop-curve-test.false in
     record {
       value = same_range _ _ _ _ (inv.4 ∙ ap (total (λ y. (margin (q y) limits p).least)) whole) (inv.5 ∙ ap (total (λ y. (margin (q y) limits p).most)) whole);
-      low-bound = omega (arith, ints);
-      high-bound = omega (arith, ints);
+      low_bound = omega (arith, ints);
+      high_bound = omega (arith, ints);
     }

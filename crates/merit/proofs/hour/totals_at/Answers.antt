@@ -14,8 +14,8 @@ loop-curve-preserved g c =
     let laws = g.met.C.PriceCurve.kept x in
     let far = laws.reach_within in
     let inv = c.loop-curve.invariant in
-    let bought_is : c.lots.result ≡ traded Buying (q x p) = lots_of Buying _ _ _ c.lots.ensures c.quantity-quantity.type-inv c.quantity-quantity.ensures in
-    let sold_is : c.lots-in-loop-curve.result ≡ traded Selling (q x p) = lots_of Selling _ _ _ c.lots-in-loop-curve.ensures c.quantity-quantity.type-inv c.quantity-quantity.ensures in
+    let bought_is : c.lots.result ≡ traded Buying (q x p) = lots_of Buying _ _ _ c.lots.ensures c.quantity-quantity.type_inv c.quantity-quantity.ensures in
+    let sold_is : c.lots-in-loop-curve.result ≡ traded Selling (q x p) = lots_of Selling _ _ _ c.lots-in-loop-curve.ensures c.quantity-quantity.type_inv c.quantity-quantity.ensures in
     let bought-few = traded_within Buying (q x p) _ (laws.sold_within p) (laws.bought_within p) in
     let sold-few = traded_within Selling (q x p) _ (laws.sold_within p) (laws.bought_within p) in (
       omega arith,

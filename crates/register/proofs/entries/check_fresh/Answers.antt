@@ -9,12 +9,12 @@ returns-in-Ok g c =
     let s = stands_is g.B.Bid.kind c.number-number.result c.args.bids.now c.find.result c.find.ensures in
     grind (arith, nat_tests)
 
-pub returns-then-standing-standing-limit : goal.returns-then-standing-standing-limit
-returns-then-standing-standing-limit g c =
+pub returns-then-standing-standing_limit : goal.returns-then-standing-standing_limit
+returns-then-standing-standing_limit g c =
     let s = stands_is g.B.Bid.kind c.number-number.result c.args.bids.now c.find.result c.find.ensures in
     grind (arith, nat_tests)
 
-pub returns-else-standing-standing-limit : goal.returns-else-standing-standing-limit
-returns-else-standing-standing-limit g c =
+pub returns-else-standing-standing_limit : goal.returns-else-standing-standing_limit
+returns-else-standing-standing_limit g c =
     let s = stands_is g.B.Bid.kind c.number-number.result c.args.bids.now c.find.result c.find.ensures in
     (grind (arith, nat_tests), subst (λ n. Placed g.B.Bid.kind n c.args.bids.now (Err c.in-Err.place)) c.number-number.ensures c.in-Err.ensures)

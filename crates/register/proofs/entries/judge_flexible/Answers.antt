@@ -6,14 +6,14 @@ use Rattle.bids.proofs.Checks.{goes, stops}
 use Rattle.register.specs.Entries.{identity_rule, fresh_rules, price_rule, room_rule}
 use Rattle.register.proofs.entries.judge_flexible.Goals as goal
 
-pub returns-in-err-place : goal.returns-in-err-place
-returns-in-err-place c =
-    let p = err_from_is_err_and c.from-residual-in-err-place.result c.from-residual-in-err-place.ensures.1 in
+pub returns-in_err-place : goal.returns-in_err-place
+returns-in_err-place c =
+    let p = err_from_is_err_and c.from-residual-in_err-place.result c.from-residual-in_err-place.ensures.1 in
     let b = c.args.bid.now in
     let xs = c.args.bids.now in
     rw (p.1, p.2) (
-    goes (identity_rule flexible b) _ (sym c.in-ok-check-identity.ensures)
-    ∙ goes (flexible_form b) _ (sym c.in-ok-check-form.ensures.value)
-    ∙ goes (price_rule c.args.limits b.price b.number) _ (sym c.in-ok-check-price.ensures)
-    ∙ stops (fresh_rules flexible xs b) (room_rule flexible c.args.room xs b) _ c.in-err-place.ensures
+    goes (identity_rule flexible b) _ (sym c.in_ok-check_identity.ensures)
+    ∙ goes (flexible_form b) _ (sym c.in_ok-check_form.ensures.value)
+    ∙ goes (price_rule c.args.limits b.price b.number) _ (sym c.in_ok-check_price.ensures)
+    ∙ stops (fresh_rules flexible xs b) (room_rule flexible c.args.room xs b) _ c.in_err-place.ensures
     )

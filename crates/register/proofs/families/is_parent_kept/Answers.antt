@@ -12,7 +12,7 @@ returns-then-parent-block c =
     let f : SFits w32 (get_or (get_or c.args.blocks.now c.in-Ok.place blank).quantities 0 (pos 0)) = search rules in
     let g : SFits w32 (get_or c.args.block.now.quantities 0 (pos 0)) = search rules in
     let same : (get_or c.args.blocks.now c.in-Ok.place blank).participant ≡ c.args.block.now.participant = omega (arith, c.if-parent-block.true) in
-    let told = simp to_z-of_z at c.are-one-side.ensures in
+    let told = simp to_z-of_z at c.are_one_side.ensures in
     let kept = kept_same c.args.blocks.now c.args.block.now c.in-Some.number y c.in-Some.is (found_at block _ c.args.blocks.now c.in-Ok.place blank c.requires c.in-Ok.ensures) same in
     simp (told, kept)
 

@@ -6,8 +6,8 @@ use Rattle.register.proofs.hours.are_hours_kept.Goals as goal
 pub loop-bid-init : goal.loop-bid-init
 loop-bid-init g c = marked_none c.args.bids.now 24000 refl
 
-pub returns-then-bid-gt-LAST-HOUR : goal.returns-then-bid-gt-LAST-HOUR
-returns-then-bid-gt-LAST-HOUR g c = sym (stop_hour c.args.bids.now _ _ c.loop-bid.invariant c.bid-item.result c.loop-bid-test.true c.bid-item.is (lt-leb _ 23 c.if-bid-gt-LAST-HOUR.true))
+pub returns-then-bid-gt-LAST_HOUR : goal.returns-then-bid-gt-LAST_HOUR
+returns-then-bid-gt-LAST_HOUR g c = sym (stop_hour c.args.bids.now _ _ c.loop-bid.invariant c.bid-item.result c.loop-bid-test.true c.bid-item.is (lt-leb _ 23 c.if-bid-gt-LAST_HOUR.true))
 
 pub bounds-taken-place : goal.bounds-taken-place
 bounds-taken-place g c = let p = participant_below c.args.bids.now c.loop-bid.bid-index c.bid-item.result c.requires c.loop-bid-test.true c.bid-item.is in omega arith
@@ -23,7 +23,7 @@ bounds-taken-place-in-loop-bid g c = let p = participant_below c.args.bids.now c
 pub loop-bid-preserved : goal.loop-bid-preserved
 loop-bid-preserved g c =
     let p = participant_below c.args.bids.now c.loop-bid.bid-index c.bid-item.result c.requires c.loop-bid-test.true c.bid-item.is in
-    marked_more c.args.bids.now _ _ c.loop-bid.invariant c.bid-item.result c.loop-bid-test.true c.bid-item.is p (le-leb _ _ c.if-bid-gt-LAST-HOUR.false) c.if-taken-place.false
+    marked_more c.args.bids.now _ _ c.loop-bid.invariant c.bid-item.result c.loop-bid-test.true c.bid-item.is p (le-leb _ _ c.if-bid-gt-LAST_HOUR.false) c.if-taken-place.false
 
 pub returns : goal.returns
 returns g c = sym (marked_all c.args.bids.now _ _ c.loop-bid.invariant c.loop-bid-test.false)

@@ -3,20 +3,20 @@ use Rattle.bids.specs.Blocks.{block_right, block_fault}
 use Rattle.bids.proofs.Checks.{answers, fault_of_count, fault_at, no_fault, when_kept, when_broken}
 use Rattle.bids.proofs.rows.BlockBid.check_form.Goals as goal
 
-pub returns-then-not-spans-hours : goal.returns-then-not-spans-hours
+pub returns-then-not-spans_hours : goal.returns-then-not-spans_hours
 unfolding block_fault
-returns-then-not-spans-hours c =
-    let broken = sym c.if-not-spans-hours.ensures in
+returns-then-not-spans_hours c =
+    let broken = sym c.if-not-spans_hours.ensures in
     record { value = answers _ _ _ (fault_of_count _ c.args.self.now.hours (block_right c.args.self.now) broken); rule = (refl, when_broken _ _ _ broken refl) }
 
 pub loop-index-preserved : goal.loop-index-preserved
-loop-index-preserved c = below_more _ _ c.loop-index.invariant (sym c.if-not-is-right-at.ensures)
+loop-index-preserved c = below_more _ _ c.loop-index.invariant (sym c.if-not-is_right_at.ensures)
 
-pub returns-then-not-is-right-at : goal.returns-then-not-is-right-at
+pub returns-then-not-is_right_at : goal.returns-then-not-is_right_at
 unfolding block_fault
-returns-then-not-is-right-at c =
-    let spans = sym c.if-not-spans-hours.ensures in
-    let wrong = sym c.if-not-is-right-at.ensures in
+returns-then-not-is_right_at c =
+    let spans = sym c.if-not-spans_hours.ensures in
+    let wrong = sym c.if-not-is_right_at.ensures in
     record {
       value = answers _ _ _ (fault_at _ _ _ spans _ c.loop-index-test.true c.loop-index.invariant wrong);
       rule = (refl, when_kept _ _ _ spans (record { within = c.loop-index-test.true; wrong = wrong; before = c.loop-index.invariant }));
@@ -25,6 +25,6 @@ returns-then-not-is-right-at c =
 pub returns : goal.returns
 unfolding block_fault
 returns c =
-    let spans = sym c.if-not-spans-hours.ensures in
+    let spans = sym c.if-not-spans_hours.ensures in
     let right : (i : ℕ) → i < c.args.self.now.hours → block_right c.args.self.now i ≡ true = λ i l. c.loop-index.invariant i (omega arith) in
     record { value = answers _ _ _ (no_fault _ _ _ spans right); rule = record { spans = spans; right = right } }

@@ -2,5 +2,5 @@ use Rattle.std.proofs.Common.{sym}
 use Rattle.bids.proofs.StartTable.{told_starts}
 use Rattle.bids.proofs.rows.FlexibleBid.starts.Goals as goal
 
-pub returns-then-spans-window : goal.returns-then-spans-window
-returns-then-spans-window c = rw (told_starts c.args.self.now (sym c.if-spans-window.ensures))
+pub returns-then-spans_window : goal.returns-then-spans_window
+returns-then-spans_window c = rw (told_starts c.args.self.now (sym c.if-spans_window.ensures))

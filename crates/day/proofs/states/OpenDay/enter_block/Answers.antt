@@ -5,6 +5,6 @@ use Rattle.day.proofs.states.OpenDay.enter_block.Goals as goal
 
 pub returns : goal.returns
 returns g c = record {
-  exact = c.put-block.ensures;
-  since = tells_on (calls.EnterBlock c.args.bid) c.args.self.now (record { hourly = c.args.hourly.now; blocks = c.args.blocks.now; flexible = c.args.flexible.now }) c.put-block.result c.put-block.new.self _ refl c.put-block.ensures;
+  exact = c.put_block.ensures;
+  since = tells_on (calls.EnterBlock c.args.bid) c.args.self.now (record { hourly = c.args.hourly.now; blocks = c.args.blocks.now; flexible = c.args.flexible.now }) c.put_block.result c.put_block.new.self _ refl c.put_block.ensures;
 }

@@ -5,6 +5,6 @@ use Rattle.day.proofs.states.OpenDay.enter_hourly.Goals as goal
 
 pub returns : goal.returns
 returns g c = record {
-  exact = c.put-hourly.ensures;
-  since = tells_on (calls.EnterHourly c.args.bid) c.args.self.now (record { hourly = c.args.hourly.now; blocks = c.args.blocks.now; flexible = c.args.flexible.now }) c.put-hourly.result c.put-hourly.new.self _ refl c.put-hourly.ensures;
+  exact = c.put_hourly.ensures;
+  since = tells_on (calls.EnterHourly c.args.bid) c.args.self.now (record { hourly = c.args.hourly.now; blocks = c.args.blocks.now; flexible = c.args.flexible.now }) c.put_hourly.result c.put_hourly.new.self _ refl c.put_hourly.ensures;
 }

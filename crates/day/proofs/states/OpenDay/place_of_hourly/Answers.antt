@@ -12,21 +12,21 @@ use Rattle.register.proofs.Guards.{guarded, hourly_rises}
 use Rattle.day.proofs.Parts.{at_part, judged}
 use Rattle.day.proofs.states.OpenDay.place_of_hourly.Goals as goal
 
-pub returns-in-err-check-registers : goal.returns-in-err-check-registers
-returns-in-err-check-registers g c =
+pub returns-in_err-check_registers : goal.returns-in_err-check_registers
+returns-in_err-check_registers g c =
     let p = err_from_is_err_and c.from-residual.result c.from-residual.ensures.1 in
     let t : Tables _ = (record { hourly = c.args.hourly.now; blocks = c.args.blocks.now; flexible = c.args.flexible.now }) in
-    rw (p.1, p.2) (stops (register_rules c.args.self.now.limits c.args.self.now.counts t) (call_rules c.args.self.now.limits (places_of t) (standing c.args.self.now.counts t) (calls.WithdrawHourly c.args.number)) _ (sym c.in-err-check-registers.ensures.value))
+    rw (p.1, p.2) (stops (register_rules c.args.self.now.limits c.args.self.now.counts t) (call_rules c.args.self.now.limits (places_of t) (standing c.args.self.now.counts t) (calls.WithdrawHourly c.args.number)) _ (sym c.in_err-check_registers.ensures.value))
 
-pub slice-bounds-judge-withdrawal-end : goal.slice-bounds-judge-withdrawal-end
-slice-bounds-judge-withdrawal-end g c = (guarded c.args.self.now.limits c.args.self.now.counts (record { hourly = c.args.hourly.now; blocks = c.args.blocks.now; flexible = c.args.flexible.now }) (sym c.in-ok-check-registers.ensures.value)).hourly_within
+pub slice_bounds-judge_withdrawal-end : goal.slice_bounds-judge_withdrawal-end
+slice_bounds-judge_withdrawal-end g c = (guarded c.args.self.now.limits c.args.self.now.counts (record { hourly = c.args.hourly.now; blocks = c.args.blocks.now; flexible = c.args.flexible.now }) (sym c.in_ok-check_registers.ensures.value)).hourly_within
 
-pub judge-withdrawal-requires : goal.judge-withdrawal-requires
-judge-withdrawal-requires g c =
+pub judge_withdrawal-requires : goal.judge_withdrawal-requires
+judge_withdrawal-requires g c =
     at_part (λ xs. rising hourly 0 xs ≡ true) c.args.self.now.counts.hourly c.args.hourly.now
-    (hourly_rises c.args.self.now.limits c.args.self.now.counts (record { hourly = c.args.hourly.now; blocks = c.args.blocks.now; flexible = c.args.flexible.now }) (guarded c.args.self.now.limits c.args.self.now.counts (record { hourly = c.args.hourly.now; blocks = c.args.blocks.now; flexible = c.args.flexible.now }) (sym c.in-ok-check-registers.ensures.value)))
+    (hourly_rises c.args.self.now.limits c.args.self.now.counts (record { hourly = c.args.hourly.now; blocks = c.args.blocks.now; flexible = c.args.flexible.now }) (guarded c.args.self.now.limits c.args.self.now.counts (record { hourly = c.args.hourly.now; blocks = c.args.blocks.now; flexible = c.args.flexible.now }) (sym c.in_ok-check_registers.ensures.value)))
 
 pub returns : goal.returns
 returns g c =
     judged (register_rules c.args.self.now.limits c.args.self.now.counts (record { hourly = c.args.hourly.now; blocks = c.args.blocks.now; flexible = c.args.flexible.now })) (λ xs. standing_rule hourly xs c.args.number) (λ xs at. Placed hourly c.args.number xs (Ok at))
-    c.args.self.now.counts.hourly c.args.hourly.now c.judge-withdrawal.result (sym c.in-ok-check-registers.ensures.value) c.judge-withdrawal.ensures
+    c.args.self.now.counts.hourly c.args.hourly.now c.judge_withdrawal.result (sym c.in_ok-check_registers.ensures.value) c.judge_withdrawal.ensures

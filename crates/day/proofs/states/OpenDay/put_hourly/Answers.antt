@@ -4,19 +4,19 @@ use Rattle.day.proofs.states.OpenDay.put_hourly.Goals as goal
 
 pub insert-requires : goal.insert-requires
 insert-requires g c =
-    let h = c.in-ok-place.ensures in
+    let h = c.in_ok-place.ensures in
     let room = hourly_room c.args.self.now.limits c.args.self.now.counts (record { hourly = c.args.hourly.now; blocks = c.args.blocks.now; flexible = c.args.flexible.now }) c.args.bid h.0 in
     let p = h.1.0 in
     let e = length-take c.args.self.now.counts.hourly c.args.hourly.now in
     (omega (arith, p, e, room), room)
 
-pub overflow-add-self : goal.overflow-add-self
-overflow-add-self g c =
-    let h = c.in-ok-place.ensures in
+pub overflow_add-self : goal.overflow_add-self
+overflow_add-self g c =
+    let h = c.in_ok-place.ensures in
     let room = hourly_room c.args.self.now.limits c.args.self.now.counts (record { hourly = c.args.hourly.now; blocks = c.args.blocks.now; flexible = c.args.flexible.now }) c.args.bid h.0 in
     omega (arith, room, c.well-formed)
 
 pub returns : goal.returns
 returns g c =
-    let h = c.in-ok-place.ensures in
-    enters_hourly c.args.self.now _ (record { hourly = c.args.hourly.now; blocks = c.args.blocks.now; flexible = c.args.flexible.now }) refl c.args.bid c.in-ok-place.place c.insert.new.table refl h.0 h.1 c.insert.ensures
+    let h = c.in_ok-place.ensures in
+    enters_hourly c.args.self.now _ (record { hourly = c.args.hourly.now; blocks = c.args.blocks.now; flexible = c.args.flexible.now }) refl c.args.bid c.in_ok-place.place c.insert.new.table refl h.0 h.1 c.insert.ensures

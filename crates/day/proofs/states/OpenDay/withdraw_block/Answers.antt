@@ -5,6 +5,6 @@ use Rattle.day.proofs.states.OpenDay.withdraw_block.Goals as goal
 
 pub returns : goal.returns
 returns g c = record {
-  exact = c.take-block.ensures;
-  since = tells_on (calls.WithdrawBlock c.args.number) c.args.self.now (record { hourly = c.args.hourly.now; blocks = c.args.blocks.now; flexible = c.args.flexible.now }) c.take-block.result c.take-block.new.self _ refl c.take-block.ensures;
+  exact = c.take_block.ensures;
+  since = tells_on (calls.WithdrawBlock c.args.number) c.args.self.now (record { hourly = c.args.hourly.now; blocks = c.args.blocks.now; flexible = c.args.flexible.now }) c.take_block.result c.take_block.new.self _ refl c.take_block.ensures;
 }

@@ -5,6 +5,6 @@ use Rattle.day.proofs.states.OpenDay.withdraw_flexible.Goals as goal
 
 pub returns : goal.returns
 returns g c = record {
-  exact = c.take-flexible.ensures;
-  since = tells_on (calls.WithdrawFlexible c.args.number) c.args.self.now (record { hourly = c.args.hourly.now; blocks = c.args.blocks.now; flexible = c.args.flexible.now }) c.take-flexible.result c.take-flexible.new.self _ refl c.take-flexible.ensures;
+  exact = c.take_flexible.ensures;
+  since = tells_on (calls.WithdrawFlexible c.args.number) c.args.self.now (record { hourly = c.args.hourly.now; blocks = c.args.blocks.now; flexible = c.args.flexible.now }) c.take_flexible.result c.take_flexible.new.self _ refl c.take_flexible.ensures;
 }

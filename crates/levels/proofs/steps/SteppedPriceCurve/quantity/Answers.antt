@@ -14,7 +14,7 @@ unfolding stepped
 returns c =
     let t = c.args.self.now.table in
     let n = c.around.result in
-    let found : n ≡ around (in_force_of t) c.min.result = c.around.ensures ∙ ap (λ ls. around ls c.min.result) c.in-force.ensures in
+    let found : n ≡ around (in_force_of t) c.min.result = c.around.ensures ∙ ap (λ ls. around ls c.min.result) c.in_force.ensures in
     let near = subst (λ (x : Neighbours). Neighbouring x c.min.result) (sym found) (neighbouring (in_force_of t) c.min.result (force_formed t)) in
     let b = bounds n.at near.at_bounded in
     let fits : to_z w32 (of_z w32 n.at.quantity) ≡ n.at.quantity = omega (arith, ints, b.quantity_from, b.quantity_to) in

@@ -3,12 +3,12 @@ use Rattle.levels.specs.Form.{formed}
 use Rattle.levels.specs.Fronts.{Formed, force_formed}
 use Rattle.levels.proofs.steps.SteppedValuedCurve.worth.Goals as goal
 
-pub greatest-buying-requires : goal.greatest-buying-requires
-greatest-buying-requires c =
-    let f = subst Formed (sym c.in-force.ensures) (force_formed c.args.self.now.table) in
-    (sym c.if-not-is-lawful.ensures, (omega arith, (f.keeps, f.some)))
+pub greatest_buying-requires : goal.greatest_buying-requires
+greatest_buying-requires c =
+    let f = subst Formed (sym c.in_force.ensures) (force_formed c.args.self.now.table) in
+    (sym c.if-not-is_lawful.ensures, (omega arith, (f.keeps, f.some)))
 
-pub least-selling-requires : goal.least-selling-requires
-least-selling-requires c =
-    let f = subst Formed (sym c.in-force-in-Selling.ensures) (force_formed c.args.self.now.table) in
-    (sym c.if-not-is-lawful.ensures, (omega arith, (f.keeps, f.some)))
+pub least_selling-requires : goal.least_selling-requires
+least_selling-requires c =
+    let f = subst Formed (sym c.in_force-in-Selling.ensures) (force_formed c.args.self.now.table) in
+    (sym c.if-not-is_lawful.ensures, (omega arith, (f.keeps, f.some)))

@@ -4,8 +4,8 @@ use Rattle.std.proofs.lemmas.Int.{ints}
 use Rattle.piles.specs.Laws.{added_is}
 use Rattle.piles.proofs.sums.SumPriceCurve.quantity.Goals as goal
 
-pub overflow-add-quantity : goal.overflow-add-quantity
-overflow-add-quantity g c =
+pub overflow_add-quantity : goal.overflow_add-quantity
+overflow_add-quantity g c =
     let a = g.met.A.PriceCurve.kept c.args.self.now.first in
     let b = g.met.B.PriceCurve.kept c.args.self.now.second in
     let p = c.args.price in
