@@ -67,8 +67,8 @@ pub fn judge_flexible(
 
 /// The place of the bid of a number, or the refusal of a number that does not stand.
 pub fn judge_withdrawal<B: Bid>(bids: &[B], number: u16) -> Result<usize, Refusal>
-    requires { rising kind 0 bids.now ≡ true }
-    ensures { GoesOn (standing_rule kind bids.now number) (λ at. Placed kind number bids.now (Ok at)) result }
+    requires { rising B.Bid.kind 0 bids.now ≡ true }
+    ensures { GoesOn (standing_rule B.Bid.kind bids.now number) (λ at. Placed B.Bid.kind number bids.now (Ok at)) result }
 {
     match find(bids, number) {
         Ok(place) => Ok(place),
@@ -96,7 +96,7 @@ pub fn judge_block_withdrawal(bids: &[BlockBid], number: u16) -> Result<usize, R
 
 /// That the number and the participant of a bid are in bounds.
 fn check_identity<B: Bid>(bid: &B) -> Result<(), Refusal>
-    ensures { result ≡ first_of (identity_rule kind bid.now) }
+    ensures { result ≡ first_of (identity_rule B.Bid.kind bid.now) }
 {
     if is_known(bid) {
         Ok(())
@@ -124,8 +124,8 @@ fn check_price(limits: Limits, price: u32, number: u16) -> Result<(), Refusal>
 
 /// The place for a bid whose number does not stand yet, and whose participant has fewer than it may have.
 fn check_fresh<B: Bid>(bids: &[B], bid: &B) -> Result<usize, Refusal>
-    requires { rising kind 0 bids.now ≡ true }
-    ensures { GoesOn (fresh_rules kind bids.now bid.now) (λ at. Placed kind (kind.number_of bid.now) bids.now (Err at)) result }
+    requires { rising B.Bid.kind 0 bids.now ≡ true }
+    ensures { GoesOn (fresh_rules B.Bid.kind bids.now bid.now) (λ at. Placed B.Bid.kind (B.Bid.kind.number_of bid.now) bids.now (Err at)) result }
 {
     let number = bid.number();
     match find(bids, number) {
@@ -160,7 +160,7 @@ fn check_hour<C>(bids: &[HourlyBid<C>], bid: &HourlyBid<C>) -> Result<(), Refusa
 
 /// That a place is free in a table of so many places in which so many bids stand.
 fn check_room<B: Bid>(bids: &[B], room: usize, bid: &B) -> Result<(), Refusal>
-    ensures { result ≡ first_of (room_rule kind room bids.now bid.now) }
+    ensures { result ≡ first_of (room_rule B.Bid.kind room bids.now bid.now) }
 {
     if bids.len() >= room.min(B::places_limit()) {
         return Err(Refusal {

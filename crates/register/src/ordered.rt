@@ -14,7 +14,7 @@ pub const HIGHEST_PARTICIPANT: u16 = 999;
 
 /// Whether the number and the participant of a bid are such as a register may hold.
 pub fn is_known<B: Bid>(bid: &B) -> bool
-    ensures { result ≡ known kind bid.now }
+    ensures { result ≡ known B.Bid.kind bid.now }
 {
     let number = bid.number();
     let participant = bid.participant();
@@ -23,7 +23,7 @@ pub fn is_known<B: Bid>(bid: &B) -> bool
 
 /// Whether bids stand in order: their numbers rise, each is known, and no participant has more than it may have.
 pub fn is_ordered<B: Bid>(bids: &[B]) -> bool
-    ensures { result ≡ ordered kind bids.now }
+    ensures { result ≡ ordered B.Bid.kind bids.now }
 {
     let mut counts = [0usize; 1_000];
     let mut last = 0;
@@ -45,7 +45,7 @@ pub fn is_ordered<B: Bid>(bids: &[B]) -> bool
 
 /// How many bids of a participant stand.
 pub fn standing<B: Bid>(bids: &[B], participant: u16) -> usize
-    ensures { result ≡ tally kind participant bids.now }
+    ensures { result ≡ tally B.Bid.kind participant bids.now }
 {
     let mut count: usize = 0;
     for bid in bids {
@@ -58,8 +58,8 @@ pub fn standing<B: Bid>(bids: &[B], participant: u16) -> usize
 
 /// The place of a number among bids of rising number: where it stands, or else where it would.
 pub fn find<B: Bid>(bids: &[B], number: u16) -> Result<usize, usize>
-    requires { rising kind 0 bids.now ≡ true }
-    ensures { Placed kind number bids.now result }
+    requires { rising B.Bid.kind 0 bids.now ≡ true }
+    ensures { Placed B.Bid.kind number bids.now result }
 {
     let mut low = 0;
     let mut high = bids.len();

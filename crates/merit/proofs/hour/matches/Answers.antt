@@ -30,7 +30,7 @@ loop-curve-init g c =
     (omega (arith, ints), omega (arith, ints), subst (λ ms. Sofar (range g limits price) cs 0 ms missing) (sym c.new-matched.ensures.items) (none_yet (range g limits price) (upright g limits price) cs missing missing-is))
 
 pub returns-in_err-push : goal.returns-in_err-push
-returns-in_err-push g c = record { len = IfOk-from_err _ _ c.from-residual.ensures.0; matched = IfOk-from_err _ _ c.from-residual.ensures.0 }
+returns-in_err-push g c = record { len = IfOk-from_err _ _ c.from_residual.ensures.0; matched = IfOk-from_err _ _ c.from_residual.ensures.0 }
 
 pub loop-curve-preserved : goal.loop-curve-preserved
 loop-curve-preserved g c =

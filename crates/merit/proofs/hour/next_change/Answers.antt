@@ -1,4 +1,5 @@
-use Rattle.std.proofs.Common.{◌≡◌, sym, refl, ap, ◌∙◌, arith}
+use Rattle.std.proofs.Common.{◌≡◌, true, sym, ap, ◌∙◌, arith}
+use Rattle.std.proofs.lemmas.Bool.{and_parts, eqb-true}
 use Rattle.curve.specs.Laws.{Falls}
 use Rattle.merit.specs.Hours.{totals}
 use Rattle.merit.proofs.Hours.{same_totals}
@@ -19,10 +20,10 @@ returns-then-price-limits g c n from to =
     elim c.then-price-limits.branch [
       | then-price-limits-via-then-price-limits w ↦ ap (totals q cs) (omega (arith, w.if-price-limits.true))
       | then-price-limits-via-else-price-limits+then-eq w ↦
-          let same = w.if-eq.ensures in
+          let same = and_parts _ _ (sym w.if-eq.ensures) in
           let there = w.totals_at.ensures in
           let here = c.totals_at-here.ensures in
-          between q (falls g) cs price n highest from to (same_totals _ _ _ _ (sym (ap (λ t. t.bought) there) ∙ same.0.0 refl ∙ ap (λ t. t.bought) here) (sym (ap (λ t. t.sold) there) ∙ same.1.0 refl ∙ ap (λ t. t.sold) here))
+          between q (falls g) cs price n highest from to (same_totals _ _ _ _ (sym (ap (λ t. t.bought) there) ∙ eqb-true _ _ same.0 ∙ ap (λ t. t.bought) here) (sym (ap (λ t. t.sold) there) ∙ eqb-true _ _ same.1 ∙ ap (λ t. t.sold) here))
     ]
 
 pub returns : goal.returns

@@ -8,7 +8,7 @@ use Rattle.register.proofs.entries.judge_block.Goals as goal
 
 pub returns-in_err-place : goal.returns-in_err-place
 returns-in_err-place c =
-    let p = err_from_is_err_and c.from-residual-in_err-place.result c.from-residual-in_err-place.ensures.1 in
+    let p = err_from_is_err_and c.from_residual-in_err-place.result c.from_residual-in_err-place.ensures.1 in
     let b = c.args.bid.now in
     let xs = c.args.bids.now in
     rw (p.1, p.2) (

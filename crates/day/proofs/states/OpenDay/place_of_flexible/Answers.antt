@@ -14,7 +14,7 @@ use Rattle.day.proofs.states.OpenDay.place_of_flexible.Goals as goal
 
 pub returns-in_err-check_registers : goal.returns-in_err-check_registers
 returns-in_err-check_registers g c =
-    let p = err_from_is_err_and c.from-residual.result c.from-residual.ensures.1 in
+    let p = err_from_is_err_and c.from_residual.result c.from_residual.ensures.1 in
     let t : Tables _ = (record { hourly = c.args.hourly.now; blocks = c.args.blocks.now; flexible = c.args.flexible.now }) in
     rw (p.1, p.2) (stops (register_rules c.args.self.now.limits c.args.self.now.counts t) (call_rules c.args.self.now.limits (places_of t) (standing c.args.self.now.counts t) (calls.WithdrawFlexible c.args.number)) _ (sym c.in_err-check_registers.ensures.value))
 
