@@ -2,14 +2,15 @@
 
 use console::Failure;
 use console::report::merit;
+use std::process::ExitCode;
 use std::io;
 
-fn main(rt: HostRuntime) -> Result<(), Failure> {
+fn main(rt: HostRuntime) -> io::Result<ExitCode> {
     match merit(&rt, None) {
-        Ok(()) => Ok(()),
+        Ok(()) => Ok(ExitCode::SUCCESS),
         Err(failure) => {
             eprintln!(rt; "hour: {failure}")?;
-            Err(failure)
+            Ok(ExitCode::FAILURE)
         }
     }
 }

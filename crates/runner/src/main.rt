@@ -2,14 +2,15 @@
 
 use console::report::merit;
 use console::{Failure, help, read_text};
+use std::process::ExitCode;
 use std::{env, io};
 
-fn main(rt: HostRuntime) -> Result<(), Failure> {
+fn main(rt: HostRuntime) -> io::Result<ExitCode> {
     match obey(&rt) {
-        Ok(()) => Ok(()),
+        Ok(()) => Ok(ExitCode::SUCCESS),
         Err(failure) => {
             eprintln!(rt; "dufnask: {failure}")?;
-            Err(failure)
+            Ok(ExitCode::FAILURE)
         }
     }
 }

@@ -14,7 +14,7 @@ pub overflow_add-self : goal.overflow_add-self
 overflow_add-self g c =
     let h = c.in_ok-place.ensures in
     let room = block_room c.args.self.now.limits c.args.self.now.counts (record { hourly = c.args.hourly.now; blocks = c.args.blocks.now; flexible = c.args.flexible.now }) c.args.bid h.0 in
-    omega (arith, room, c.well-formed)
+    omega (arith, room, c.well_formed)
 
 pub returns : goal.returns
 returns g c =
