@@ -2,8 +2,8 @@
 
 use console::Failure;
 use console::report::merit;
-use std::process::ExitCode;
 use std::io;
+use std::process::ExitCode;
 
 fn main(rt: HostRuntime) -> io::Result<ExitCode> {
     match merit(&rt, None) {
