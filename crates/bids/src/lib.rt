@@ -1,5 +1,6 @@
 //! Bids as rows by value: hourly, block and flexible bids, what form they must keep, and what every register knows of
 //! its bids.
+#![tactic(auto)]
 
 pub mod blocks;
 pub mod flexibles;

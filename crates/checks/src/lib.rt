@@ -1,4 +1,5 @@
 //! The worked figures of the market, as tests of the library crates.
+#![tactic(auto)]
 
 #[cfg(test)]
 mod curves;

@@ -1,5 +1,6 @@
 //! What the programs share: reading the words of a line and the curves that they write, the report on an hour, what a
 //! refusal means in words, and why a program ends without doing what was asked.
+#![tactic(auto)]
 
 pub mod bench;
 pub mod cursor;

@@ -1,15 +1,15 @@
 -- A curve that never rises buys fewer lots and sells more as the price rises, so that the best price of a lot is where that turns.
-use Rattle.std.proofs.Common.{◌≡◌, ℕ, ◌+◌, ◌<◌, ◌≤◌, true, ℤ, pos, negsuc, neg_ℤ, ◌≤ℤ◌, Some, None, ap, ◌∙◌, ⊎_elim, arith, w32, to_z, of_z}
+use Rattle.std.proofs.Common.{◌≡◌, ℕ, ◌<◌, ◌≤◌, true, ℤ, pos, negsuc, neg_ℤ, ◌≤ℤ◌, Some, None, ap, ◌∙◌, ⊎_elim, arith, w32, to_z, of_z}
 use lib.Signed.{mag}
 use Rattle.std.proofs.lemmas.Int.{ints, to_z-of_z}
 use Rattle.std.proofs.lemmas.Bool.{cases_lt}
 use Rattle.market.specs.declared.limits.Limits.{Limits}
 use Rattle.market.specs.declared.sides.Side.{Side}
 use Rattle.market.specs.declared.sides.Side.TheVariants.{Buying, Selling}
-use Rattle.market.specs.Prices.{lawful, within}
+use Rattle.market.specs.Prices.{lawful}
 use Rattle.market.specs.Lots.{traded}
 use Rattle.curve.specs.Laws.{Falls}
-use Rattle.curve.specs.Worth.{Trades, WorthIs}
+use Rattle.curve.specs.Worth.{WorthIs}
 use Rattle.curve.proofs.Worths.{inside, inside_from, inside_to}
 
 -- the lots of a quantity that a call answered

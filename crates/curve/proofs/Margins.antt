@@ -1,12 +1,10 @@
 -- At a price, a match in the margin has the greatest surplus that a curve offers, and only such a match has it.
-use Rattle.std.proofs.Common.{◌≡◌, ℕ, zero, suc, ◌+◌, ◌-◌, ◌*◌, ◌<◌, ◌≤◌, min, Bool, true, false, cond, ◌⊎◌, ℤ, pos, negsuc, ◌+ℤ◌, ◌-ℤ◌, ◌*ℤ◌, neg_ℤ, ◌≤ℤ◌, ◌<ℤ◌, Some, None, Option, unwrap_or, sym, refl, ap, ◌∙◌, subst, inl, inr, ⊎_elim, arith}
+use Rattle.std.proofs.Common.{◌≡◌, ℕ, zero, suc, ◌+◌, ◌-◌, ◌<◌, ◌≤◌, min, true, ◌⊎◌, ℤ, pos, negsuc, ◌+ℤ◌, ◌-ℤ◌, ◌*ℤ◌, ◌≤ℤ◌, ◌<ℤ◌, Some, None, Option, unwrap_or, sym, refl, ap, subst, inl, inr, ⊎_elim, arith}
 use lib.Signed.{le_z}
 use borrow.Author.Differences.{up, down}
-use Rattle.std.specs.Int.{int_max, int_min}
 use Rattle.std.proofs.lemmas.Int.{ints, clamps}
 use Rattle.std.proofs.lemmas.Bool.{cases_lt, and_parts, and_from}
 use Rattle.market.specs.declared.limits.Limits.{Limits}
-use Rattle.market.specs.declared.sides.Side.{Side}
 use Rattle.market.specs.declared.sides.Side.TheVariants.{Buying, Selling}
 use Rattle.market.specs.Prices.{lawful, within}
 use Rattle.market.specs.Lots.{traded}

@@ -1,11 +1,10 @@
 -- The margin by the sign of the quantity at its price.
-use Rattle.std.proofs.Common.{◌≡◌, ℕ, zero, suc, ◌+◌, ◌-◌, ◌<◌, ◌≤◌, true, false, cond, leb, ℤ, pos, negsuc, ◌≤ℤ◌, ◌<ℤ◌, sym, refl, ap, ◌∙◌, subst, add-one, arith}
+use Rattle.std.proofs.Common.{◌≡◌, ℕ, zero, suc, ◌+◌, ◌-◌, ◌<◌, ◌≤◌, true, false, leb, ℤ, pos, negsuc, ◌<ℤ◌, sym, refl, ap, ◌∙◌, arith}
 use Rattle.std.specs.Int.{int_max, int_min}
 use Rattle.std.proofs.lemmas.Int.{ints}
 use Rattle.std.proofs.lemmas.Bool.{cond-true, cond-false, and_left, and_right, lt-leb}
 use Rattle.market.specs.declared.limits.Limits.{Limits}
 use Rattle.market.specs.Prices.{within}
-use Rattle.curve.specs.declared.ranges.LotRange.{LotRange}
 use Rattle.curve.specs.Margins.{counted, counted_below, margin_by, margin}
 use Rattle.curve.proofs.Worths.{inside}
 

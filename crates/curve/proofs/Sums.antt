@@ -1,5 +1,5 @@
 -- Sums of the worth of lots.
-use Rattle.std.proofs.Common.{◌≡◌, ℕ, zero, suc, ◌+◌, ◌-◌, ◌*◌, ◌<◌, ◌≤◌, sym, refl, ap, ◌∙◌, add-zero, add-suc, mul-zero, mul-suc, arith}
+use Rattle.std.proofs.Common.{◌≡◌, ℕ, zero, suc, ◌+◌, ◌-◌, ◌*◌, ◌<◌, ◌≤◌, refl, add-zero, add-suc, mul-zero, mul-suc, arith}
 use Rattle.std.proofs.lemmas.Nat.{mul-le}
 use Rattle.curve.specs.Gains.{sum_to}
 

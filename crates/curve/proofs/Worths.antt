@@ -1,6 +1,6 @@
 -- What a lot is worth is one price at most, and lots come in runs of equal worth.
-use Rattle.std.proofs.Common.{◌≡◌, ℕ, zero, suc, ◌+◌, ◌-◌, ◌*◌, ◌<◌, ◌≤◌, Bool, true, false, cond, ltb, leb, ◌⊎◌, ℤ, pos, negsuc, Some, None, Option, unwrap_or, sym, refl, ap, ◌∙◌, subst, inl, inr, ⊎_elim, arith}
-use Rattle.std.proofs.lemmas.Bool.{and_parts, and_from, leb-true, ltb-true, le-leb, lt-ltb, both_ways, cases_Bool}
+use Rattle.std.proofs.Common.{◌≡◌, ℕ, ◌-◌, ◌<◌, ◌≤◌, true, ℤ, Some, None, Option, unwrap_or, sym, refl, ap, subst, arith}
+use Rattle.std.proofs.lemmas.Bool.{and_parts, and_from, leb-true, ltb-true, le-leb, lt-ltb, both_ways}
 use Rattle.market.specs.declared.limits.Limits.{Limits}
 use Rattle.market.specs.declared.sides.Side.{Side}
 use Rattle.market.specs.declared.sides.Side.TheVariants.{Buying, Selling}

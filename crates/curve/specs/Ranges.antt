@@ -1,5 +1,5 @@
 -- Ranges of lots.
-use Rattle.std.specs.Prelude.{◌≡◌, Bool, true, ◌&&◌, ℤ, int_le}
+use Rattle.std.specs.Prelude.{Bool, ◌&&◌, ℤ, int_le}
 use Rattle.curve.specs.declared.ranges.LotRange.{LotRange}
 
 -- the lots m lie in the range

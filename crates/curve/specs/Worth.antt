@@ -1,5 +1,5 @@
 -- What each lot of a price curve is worth. q is the quantity of the curve at each price.
-use Rattle.std.specs.Prelude.{◌≡◌, ℕ, zero, suc, ◌+◌, ◌-◌, ◌<◌, ◌≤◌, Bool, true, false, cond, ◌&&◌, ℤ, Some, None, Option, nat_le, nat_lt}
+use Rattle.std.specs.Prelude.{◌≡◌, ℕ, zero, suc, ◌+◌, ◌-◌, ◌<◌, ◌≤◌, Bool, true, cond, ◌&&◌, ℤ, Some, None, Option, nat_le, nat_lt}
 use Rattle.market.specs.declared.limits.Limits.{Limits}
 use Rattle.market.specs.declared.sides.Side.{Side}
 use Rattle.market.specs.declared.sides.Side.TheVariants.{Buying, Selling}

@@ -1,4 +1,5 @@
 //! Price curves: what every kind of curve means and keeps, and what follows from that alone.
+#![tactic(auto)]
 
 pub mod bisection;
 pub mod gains;

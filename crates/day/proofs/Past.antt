@@ -1,12 +1,12 @@
 -- The law over runs: one more call.
-use Rattle.std.proofs.Common.{◌≡◌, ℕ, ◌≤◌, Bool, true, false, cond, not, ◌&&◌, ◌||◌, List, [], ◌∷◌, ◌++◌, length, take, is_ok, Ok, Err, Result, sym, refl, ap, ◌∙◌, subst, arith}
-use Rattle.std.proofs.lemmas.Bool.{cond_both, or_from}
+use Rattle.std.proofs.Common.{◌≡◌, ℕ, true, false, cond, ◌||◌, List, [], ◌∷◌, ◌++◌, is_ok, Ok, Err, Result, sym, refl, ap, ◌∙◌, subst, arith}
+use Rattle.std.proofs.lemmas.Bool.{cond_both}
 use Rattle.market.specs.Prices.{lawful}
 use Rattle.market.specs.declared.limits.Limits.{Limits}
 use Rattle.market.specs.declared.refusals.Refusal.{Refusal}
 use Rattle.bids.specs.Checks.{Answer, first_of}
 use Rattle.bids.proofs.Checks.{goes}
-use Rattle.register.specs.Lawful.{Tables, hourly_kept, blocks_kept, flexible_kept, register_rules}
+use Rattle.register.specs.Lawful.{Tables, register_rules}
 use Rattle.register.specs.declared.lawful.Counts.{Counts}
 use Rattle.register.proofs.EntryLaws.{hourly_enters, hourly_leaves, block_enters, block_leaves, flexible_enters, flexible_leaves}
 use Rattle.register.proofs.FamilyLaws.{families_none}
@@ -15,7 +15,7 @@ use Rattle.day.specs.declared.calls.Call.TheVariants as calls
 use Rattle.day.specs.declared.states.OpenDay.{OpenDay}
 use Rattle.day.specs.declared.states.ClosedDay.{ClosedDay}
 use Rattle.day.specs.Book.{Book, opening, call_rules, after_call, closes, answer, next, Entry, after, Answered}
-use Rattle.day.specs.Days.{places_of, standing, Within, day_rules, Made, Done, Closed, Told, Since, SinceClosed, noted, TellsOn, TellsOnClosed, TellsNone}
+use Rattle.day.specs.Days.{places_of, standing, Within, day_rules, Done, Closed, Told, noted, TellsOn, TellsOnClosed}
 use Rattle.register.proofs.Guards.{Guarded, guard_passes}
 use Rattle.day.proofs.Parts.{AllKept}
 

@@ -1,5 +1,5 @@
 -- The law over whole runs: a list of calls, one after the other.
-use Rattle.std.proofs.Common.{◌≡◌, ℕ, ◌+◌, ◌<◌, ◌≤◌, Bool, true, false, cond, ◌⊎◌, List, [], ◌∷◌, ◌++◌, length, get_or, take, drop, set, Ok, Err, Result, sym, refl, ap, ◌∙◌, subst, inl, inr, arith, take_all, drop-set-lt}
+use Rattle.std.proofs.Common.{◌≡◌, ℕ, ◌+◌, ◌<◌, ◌≤◌, Bool, true, false, cond, List, [], ◌∷◌, ◌++◌, length, get_or, take, drop, set, Ok, Err, sym, refl, ap, ◌∙◌, subst, inl, inr, arith, take_all, drop-set-lt}
 use Rattle.std.proofs.lemmas.List.{take_more, take_more_set, drop_more}
 use Rattle.std.proofs.lemmas.Bool.{cond-true, cond-false, cases_Bool}
 use Rattle.market.specs.Prices.{lawful}
@@ -23,8 +23,8 @@ use Rattle.day.specs.declared.states.Day.{Day}
 use Rattle.day.specs.declared.states.Day.TheVariants as days
 use Rattle.day.specs.Outcomes.{told}
 use Rattle.day.specs.Book.{Book, opening, closes, answer, next, Entry, after}
-use Rattle.day.specs.Days.{places_of, day_rules, Done, Closed, Told, Since, SinceClosed, noted, TellsOn, TellsOnClosed}
-use Rattle.day.specs.Runs.{SinceDay, outcome_by, moved, played, past_of, noted_if_made, Moved, MovesOn, Ran}
+use Rattle.day.specs.Days.{places_of, day_rules, Done, Closed, Since, SinceClosed, noted}
+use Rattle.day.specs.Runs.{SinceDay, outcome_by, moved, played, past_of, noted_if_made, MovesOn, Ran}
 use Rattle.day.proofs.Past.{answers_as, tells_on, tells_on_closed}
 
 -- the element at the front of what is left

@@ -1,5 +1,5 @@
 -- The plain book of a day: what each call answers, and what stands after it, from the calls alone.
-use Rattle.std.specs.Prelude.{◌≡◌, ℕ, Bool, true, false, cond, ◌||◌, List, [], ◌∷◌, ◌++◌, is_ok}
+use Rattle.std.specs.Prelude.{◌≡◌, Bool, true, false, cond, ◌||◌, List, [], ◌∷◌, is_ok}
 use Rattle.market.specs.declared.limits.Limits.{Limits}
 use Rattle.bids.specs.Checks.{Answer, first_of}
 use Rattle.bids.specs.Registers.{hourly, block, flexible}

@@ -1,5 +1,5 @@
 -- What each call of a day does, at any tables, and what a day tells of its past.
-use Rattle.std.specs.Prelude.{◌≡◌, ℕ, ◌≤◌, Bool, true, false, List, [], ◌∷◌, ◌++◌, length, take, Ok, Err, Result}
+use Rattle.std.specs.Prelude.{◌≡◌, ◌≤◌, Bool, true, false, List, [], ◌∷◌, ◌++◌, length, take, Ok, Err, Result}
 use Rattle.market.specs.Prices.{lawful}
 use Rattle.market.specs.declared.limits.Limits.{Limits}
 use Rattle.market.specs.declared.refusals.Refusal.{Refusal}
@@ -12,7 +12,7 @@ use Rattle.day.specs.declared.calls.Call.{Call}
 use Rattle.day.specs.declared.calls.Call.TheVariants as calls
 use Rattle.day.specs.declared.states.OpenDay.{OpenDay}
 use Rattle.day.specs.declared.states.ClosedDay.{ClosedDay}
-use Rattle.day.specs.Book.{Book, opening, call_rules, after_call, Entry, after, Answered}
+use Rattle.day.specs.Book.{opening, call_rules, after_call, Entry, after, Answered}
 
 -- how many places the tables have
 abbrev pub places_of : {C : Type 0} → Tables C → Counts

@@ -2,7 +2,7 @@
 use Rattle.std.specs.Prelude.{Ok, Err}
 use Rattle.bids.specs.Checks.{Answer}
 use Rattle.day.specs.declared.calls.Outcome.{Outcome}
-use Rattle.day.specs.declared.calls.Outcome.TheVariants.{NotMade, Done, Refused}
+use Rattle.day.specs.declared.calls.Outcome.TheVariants.{Done, Refused}
 
 -- a call that was made is done, or refused
 abbrev pub told : Answer → Outcome

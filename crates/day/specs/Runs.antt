@@ -1,5 +1,5 @@
 -- Whole runs of calls.
-use Rattle.std.specs.Prelude.{◌≡◌, Bool, true, false, cond, List, [], ◌∷◌, ◌++◌, Ok, Err, Result}
+use Rattle.std.specs.Prelude.{◌≡◌, true, false, cond, List, [], ◌∷◌, ◌++◌, Ok, Err, Result}
 use Rattle.market.specs.Prices.{lawful}
 use Rattle.market.specs.declared.limits.Limits.{Limits}
 use Rattle.market.specs.declared.refusals.Refusal.{Refusal}

@@ -1,4 +1,5 @@
 //! The calls of the days of a script, what they are answered, and what the bids of a day come to.
+#![tactic(auto)]
 
 pub mod agenda;
 pub mod answers;

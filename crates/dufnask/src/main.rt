@@ -1,4 +1,5 @@
 //! `dufnask`: what the curves of an hour come to.
+#![tactic(auto)]
 
 mod bench;
 mod failure;

@@ -1,4 +1,5 @@
 //! `hour`: what the curves of the hour on standard input come to.
+#![tactic(auto)]
 
 use console::Failure;
 use console::report::merit;

@@ -1,9 +1,8 @@
 -- The steps of the loops over levels.
-use Rattle.std.proofs.Common.{◌≡◌, ℕ, zero, suc, ◌+◌, ◌-◌, ◌<◌, ◌≤◌, max, true, false, cond, ltb, List, [], ◌∷◌, ◌++◌, length, get_or, take, drop, set, replicate, nat_abs, Some, None, sym, refl, ap, ◌∙◌, arith}
+use Rattle.std.proofs.Common.{◌≡◌, ℕ, suc, ◌+◌, ◌-◌, ◌<◌, ◌≤◌, max, true, false, List, [], ◌∷◌, ◌++◌, length, get_or, take, drop, set, replicate, nat_abs, Some, None, sym, refl, ap, ◌∙◌, arith}
 use Rattle.std.proofs.lemmas.List.{at_drop_more, at_drop_all, take_rest, take_more, take_all, set_at, append_assoc, length-take-le}
 use Rattle.std.proofs.lemmas.Bool.{cond-true, cond-false, lt-ltb, le-ltb}
 use Rattle.levels.specs.declared.level.Level.{Level}
-use Rattle.levels.specs.declared.search.Neighbours.{Neighbours}
 use Rattle.levels.specs.Form.{bounded, follows, front_after, kept_front}
 use Rattle.levels.specs.Search.{around_from, around, largest}
 use Rattle.levels.specs.Tables.{zero_level}

@@ -1,14 +1,14 @@
 -- The quantities of linear and stepped curves, by places among the levels.
-use Rattle.std.proofs.Common.{◌≡◌, ℕ, zero, suc, ◌+◌, ◌-◌, ◌*◌, ◌/◌, ◌<◌, ◌≤◌, true, List, [], ◌∷◌, length, get_or, ℤ, pos, ◌-ℤ◌, sym, refl, ap, ◌∙◌, subst, mul-zero, add-one, arith}
+use Rattle.std.proofs.Common.{◌≡◌, ℕ, zero, suc, ◌+◌, ◌-◌, ◌*◌, ◌/◌, ◌<◌, ◌≤◌, true, List, [], ◌∷◌, length, get_or, pos, ◌-ℤ◌, sym, refl, ap, ◌∙◌, subst, mul-zero, add-one, arith}
 use native.Mathlib.Nat.{div-eq_of_lt}
 use Rattle.std.proofs.lemmas.Int.{ints}
 use Rattle.std.proofs.lemmas.Bool.{and_parts}
 use Rattle.levels.specs.declared.level.Level.{Level}
-use Rattle.levels.specs.Form.{bounded, follows, formed_after, formed}
-use Rattle.levels.specs.Lines.{span, scaled, nearest, Nearest, between, on_line, linear, OnLine}
+use Rattle.levels.specs.Form.{bounded, follows, formed_after}
+use Rattle.levels.specs.Lines.{span, scaled, Nearest, between, on_line, linear, OnLine}
 use Rattle.levels.specs.Steps.{stepped, OnSteps}
 use Rattle.levels.specs.Fronts.{Formed}
-use Rattle.levels.specs.Chains.{next, Rule, along_from, along, here, there}
+use Rattle.levels.specs.Chains.{next, along_from, here, there}
 use Rattle.levels.specs.LinesLemmas.{line_rule, is_nearest, fallen, gap, between_is}
 use Rattle.levels.specs.StepRule.{on_step, step_rule}
 

@@ -1,5 +1,5 @@
 -- What a lot of a stepped curve is worth, by the first level that trades otherwise.
-use Rattle.std.proofs.Common.{◌≡◌, ℕ, zero, suc, ◌+◌, ◌-◌, ◌<◌, ◌≤◌, min, max, true, List, [], ◌∷◌, length, get_or, take, drop, ℤ, ◌≤ℤ◌, Some, None, sym, refl, ap, ◌∙◌, subst, ⊎_elim, arith}
+use Rattle.std.proofs.Common.{◌≡◌, ℕ, zero, suc, ◌-◌, ◌<◌, ◌≤◌, min, max, true, List, [], ◌∷◌, length, get_or, take, drop, ℤ, ◌≤ℤ◌, Some, None, sym, subst, ⊎_elim, arith}
 use Rattle.std.proofs.lemmas.List.{take_rest}
 use Rattle.std.proofs.lemmas.Bool.{and_parts, cases_lt}
 use Rattle.market.specs.declared.limits.Limits.{Limits}

@@ -1,12 +1,12 @@
 -- Curves that go from level to level keep the laws of curves.
-use Rattle.std.specs.Prelude.{◌≡◌, ℕ, ◌<◌, ◌≤◌, min, max, Bool, true, false, cond, List, [], ◌∷◌, length, ℤ, pos, negsuc, neg_ℤ, ◌≤ℤ◌, ◌<ℤ◌, Some, None, Option, int_le, nat_lt, unsigned_abs, refl}
-use Rattle.std.proofs.Common.{sym, ap, subst, ◌∙◌, ⊎_elim, arith}
+use Rattle.std.specs.Prelude.{◌≡◌, ℕ, ◌<◌, ◌≤◌, min, Bool, true, false, cond, List, [], ◌∷◌, ℤ, pos, negsuc, neg_ℤ, ◌≤ℤ◌, Some, None, Option, int_le, nat_lt, unsigned_abs, refl}
+use Rattle.std.proofs.Common.{ap, ⊎_elim, arith}
 use Rattle.std.proofs.lemmas.Int.{ints}
-use Rattle.std.proofs.lemmas.Bool.{and_parts, leb-true, ltb-true, ltb-false, cases_lt, cond-true, cond-false, lt-ltb, le-ltb}
-use Rattle.curve.specs.Laws.{Falls, CurveLaws}
+use Rattle.std.proofs.lemmas.Bool.{and_parts, leb-true, ltb-true, cases_lt, cond-true, cond-false, lt-ltb, le-ltb}
+use Rattle.curve.specs.Laws.{CurveLaws}
 use Rattle.levels.specs.declared.level.Level.{Level}
 use Rattle.levels.specs.declared.search.Neighbours.{Neighbours}
-use Rattle.levels.specs.Form.{bounded, follows, formed_after, formed}
+use Rattle.levels.specs.Form.{bounded, follows, formed_after}
 use Rattle.levels.specs.Search.{around_from, around, largest}
 use Rattle.levels.specs.Fronts.{Formed}
 

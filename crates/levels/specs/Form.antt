@@ -1,5 +1,5 @@
 -- The form that levels keep.
-use Rattle.std.specs.Prelude.{◌≡◌, ℕ, ◌+◌, ◌<◌, ◌≤◌, Bool, true, false, cond, ◌&&◌, List, [], ◌∷◌, length, take, ℤ, pos, negsuc, int_le, nat_le, nat_lt}
+use Rattle.std.specs.Prelude.{◌≡◌, ℕ, ◌+◌, ◌<◌, ◌≤◌, Bool, true, false, cond, ◌&&◌, List, [], ◌∷◌, length, take, pos, negsuc, int_le, nat_le, nat_lt}
 use Rattle.levels.specs.declared.level.Level.{Level}
 
 -- a level is in bounds: its price is at most 10,000,000, and its quantity lies from -100,000 to 100,000

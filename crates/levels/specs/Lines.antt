@@ -1,8 +1,7 @@
 -- Linear curves: the straight line between levels, rounded to the nearest lot, halves upward.
-use Rattle.std.specs.Prelude.{◌≡◌, ℕ, ◌+◌, ◌-◌, ◌*◌, ◌<◌, ◌≤◌, List, [], ◌∷◌, length, get_or, ℤ, pos, ◌+ℤ◌, ◌-ℤ◌, ◌*ℤ◌, neg_ℤ, ◌≤ℤ◌, ◌<ℤ◌, Some, None, Option, slice_index_or}
+use Rattle.std.specs.Prelude.{◌≡◌, ℕ, ◌+◌, ◌-◌, ◌*◌, ◌<◌, ◌≤◌, List, length, get_or, ℤ, pos, ◌+ℤ◌, ◌-ℤ◌, ◌*ℤ◌, neg_ℤ, ◌≤ℤ◌, ◌<ℤ◌, Some, None, Option, slice_index_or}
 use Rattle.std.specs.Int.{int_div_euclid}
 use Rattle.levels.specs.declared.level.Level.{Level}
-use Rattle.levels.specs.declared.search.Neighbours.{Neighbours}
 use Rattle.levels.specs.Search.{around}
 
 -- how many kuruş lie between two levels

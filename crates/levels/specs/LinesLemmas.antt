@@ -1,6 +1,6 @@
 -- The straight line between two levels, rounded to the nearest lot, never rises and stays between their quantities.
-use Rattle.std.specs.Prelude.{◌≡◌, ℕ, zero, suc, ◌+◌, ◌-◌, ◌*◌, ◌/◌, ◌%◌, ◌<◌, ◌≤◌, true, ℤ, pos, negsuc, ◌+ℤ◌, ◌-ℤ◌, ◌*ℤ◌, neg_ℤ, ◌≤ℤ◌, ◌<ℤ◌, Some, None, Option, refl}
-use Rattle.std.proofs.Common.{sym, ap, subst, ◌∙◌, arith, mul-add, mul_comm, mul_assoc, mul-suc, mul-zero, zero-mul}
+use Rattle.std.specs.Prelude.{◌≡◌, ℕ, zero, suc, ◌+◌, ◌-◌, ◌*◌, ◌/◌, ◌%◌, ◌<◌, ◌≤◌, true, ℤ, pos, negsuc, ◌+ℤ◌, ◌-ℤ◌, ◌*ℤ◌, neg_ℤ, ◌≤ℤ◌, refl}
+use Rattle.std.proofs.Common.{ap, ◌∙◌, arith, mul-add, mul_comm, mul_assoc, mul-suc, mul-zero, zero-mul}
 use borrow.Author.Differences.{up, down}
 use Rattle.std.specs.Int.{int_div_euclid}
 use Rattle.std.proofs.lemmas.Nat.{mul-le, div-mul-add, div_below, le-div, div-add-mod', mod_below}
@@ -9,7 +9,7 @@ use Rattle.curve.proofs.Margins.{sides}
 use Rattle.levels.specs.declared.level.Level.{Level}
 use Rattle.levels.specs.Form.{bounded, follows}
 use Rattle.levels.specs.Lines.{span, scaled, nearest, Nearest, between, on_line}
-use Rattle.levels.specs.Chains.{Next, next, bounds, Rule}
+use Rattle.levels.specs.Chains.{next, bounds, Rule}
 
 -- ---- products of whole numbers
 pub times_add : (p : ℕ) (a b : ℤ) → pos p *ℤ (a +ℤ b) ≡ pos p *ℤ a +ℤ pos p *ℤ b

@@ -1,5 +1,5 @@
 -- The levels in force of any table of levels, and what is made of levels that are handed in.
-use Rattle.std.specs.Prelude.{◌≡◌, ℕ, ◌+◌, ◌-◌, ◌<◌, ◌≤◌, min, Bool, true, false, ◌&&◌, List, [], ◌∷◌, ◌++◌, length, take, replicate, pos, Ok, Err, MatchBool, Result, nat_le, nat_lt}
+use Rattle.std.specs.Prelude.{◌≡◌, ℕ, ◌-◌, ◌<◌, min, Bool, true, ◌&&◌, List, [], ◌∷◌, ◌++◌, length, take, replicate, pos, Ok, Err, MatchBool, Result, nat_le, nat_lt}
 use Rattle.market.specs.declared.refusals.Refusal.{Refusal}
 use Rattle.market.specs.declared.refusals.Rule.TheVariants as rules
 use Rattle.levels.specs.declared.level.Level.{Level}

@@ -1,4 +1,5 @@
 //! Curves given by levels: linear, stepped and flat, and one kind that is any of the three.
+#![tactic(auto)]
 
 pub mod constant;
 pub mod kinds;

@@ -2,7 +2,6 @@
 use Rattle.std.specs.Prelude.{◌≡◌, ℕ, Bool, true, false, ◌&&◌, Ok, Err, Result, nat_le, nat_lt}
 use Rattle.market.specs.declared.limits.Limits.{Limits}
 use Rattle.market.specs.declared.refusals.Refusal.{Refusal}
-use Rattle.market.specs.declared.refusals.Rule.{Rule}
 use Rattle.market.specs.declared.refusals.Rule.TheVariants as rules
 
 -- the lowest price lies below the highest, and that is at most 10,000,000

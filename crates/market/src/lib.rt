@@ -1,4 +1,5 @@
 //! The units of the market: prices, limits and sides, and the refusals with their numbers.
+#![tactic(auto)]
 
 pub mod limits;
 pub mod refusals;

@@ -1,5 +1,5 @@
 -- What is made of a curve as it is written.
-use Rattle.std.specs.Prelude.{◌≡◌, ℕ, ◌+◌, ◌<◌, ◌≤◌, min, true, false, ◌⊎◌, List, ℤ, Ok, Err, vec_items, Result}
+use Rattle.std.specs.Prelude.{◌≡◌, ◌+◌, ◌<◌, ◌≤◌, min, true, false, ◌⊎◌, List, ℤ, Ok, Err, vec_items, Result}
 use Rattle.market.specs.declared.refusals.Refusal.{Refusal}
 use Rattle.market.specs.declared.refusals.Rule.TheVariants as rules
 use Rattle.levels.specs.declared.level.Level.{Level}

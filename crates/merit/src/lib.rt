@@ -1,4 +1,5 @@
 //! What the curves of an hour come to, and how curves are made as they are written.
+#![tactic(auto)]
 
 pub mod draft;
 pub mod hour;

@@ -1,9 +1,9 @@
 -- A cap over a curve and the sum of two curves keep the laws of curves.
-use Rattle.std.specs.Prelude.{◌≡◌, ℕ, ◌+◌, ◌≤◌, min, max, ℤ, pos, negsuc, ◌+ℤ◌, neg_ℤ, ◌≤ℤ◌, refl}
+use Rattle.std.specs.Prelude.{◌≡◌, ℕ, min, ℤ, pos, negsuc, ◌+ℤ◌, neg_ℤ, ◌≤ℤ◌}
 use Rattle.std.proofs.Common.{ap, ◌∙◌, arith}
 use Rattle.std.specs.Int.{int_max, int_min}
 use Rattle.std.proofs.lemmas.Int.{ints, clamps}
-use Rattle.curve.specs.Laws.{Falls, CurveLaws}
+use Rattle.curve.specs.Laws.{CurveLaws}
 use Rattle.piles.specs.Piles.{capped, cap_reach, added, sum_reach}
 
 -- ---- a cap, at one price

@@ -1,4 +1,5 @@
 //! Curves made of curves: a cap over any curve, and the sum of any two.
+#![tactic(auto)]
 
 pub mod caps;
 pub mod sums;

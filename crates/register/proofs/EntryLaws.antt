@@ -1,6 +1,6 @@
 -- Bids that may be entered or withdrawn leave lawful registers.
-use Rattle.std.proofs.Common.{◌≡◌, ℕ, ◌<◌, ◌≤◌, min, Bool, true, false, not, ◌&&◌, ◌||◌, ltb, leb, List, [], ◌∷◌, ◌++◌, length, is_some, Some, None, Ok, Err, Option, sym, refl, ap, ◌∙◌, subst, arith}
-use Rattle.std.proofs.lemmas.Bool.{and_parts, and_from, or_parts, leb-false, ltb-false, le-leb, not-false, not_from_false}
+use Rattle.std.proofs.Common.{◌≡◌, ℕ, ◌<◌, min, Bool, true, false, not, ◌&&◌, ◌||◌, ltb, leb, List, [], ◌∷◌, ◌++◌, length, is_some, None, Ok, Err, Option, refl, ap, arith}
+use Rattle.std.proofs.lemmas.Bool.{and_parts, and_from, or_parts, leb-false, ltb-false, le-leb, not-false}
 use Rattle.market.specs.Prices.{within}
 use Rattle.market.specs.declared.limits.Limits.{Limits}
 use Rattle.market.specs.declared.refusals.Refusal.{Refusal}
@@ -9,14 +9,14 @@ use Rattle.market.specs.declared.refusals.Rule.TheVariants as rules
 use Rattle.bids.specs.Kinds.{Kind}
 use Rattle.bids.specs.Registers.{hourly, block, flexible}
 use Rattle.bids.specs.Checks.{Answer, broken, first_of}
-use Rattle.bids.specs.Blocks.{block_form, block_fault}
-use Rattle.bids.specs.Flexibles.{flexible_form, flexible_fault}
+use Rattle.bids.specs.Blocks.{block_form}
+use Rattle.bids.specs.Flexibles.{flexible_form}
 use Rattle.bids.specs.declared.rows.HourlyBid.{HourlyBid}
 use Rattle.bids.specs.declared.rows.BlockBid.{BlockBid}
 use Rattle.bids.specs.declared.rows.FlexibleBid.{FlexibleBid}
 use Rattle.bids.proofs.Checks.{passed, block_formed, flexible_formed}
-use Rattle.register.specs.Order.{each, known, stands, tally, entered, without, ordered, Ordered}
-use Rattle.register.specs.Hours.{hour_right, hour_taken, hours_kept}
+use Rattle.register.specs.Order.{each, known, stands, tally, entered, without, ordered}
+use Rattle.register.specs.Hours.{hour_taken, hours_kept}
 use Rattle.register.specs.Families.{parent_kept, may_join, child_stands, families_kept}
 use Rattle.register.specs.Entries.{identity_rule, fresh_rules, room_rule, standing_rule, price_rule, hour_rule, family_rules, enter_hourly, enter_block, enter_flexible, withdraw_block}
 use Rattle.register.specs.Lawful.{hourly_kept, block_alone, blocks_kept, flexible_alone, flexible_kept}

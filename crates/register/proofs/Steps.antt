@@ -1,8 +1,8 @@
 -- What the recursions of a register give at one more bid.
-use Rattle.std.proofs.Common.{◌≡◌, ℕ, zero, suc, ◌+◌, ◌<◌, ◌≤◌, Bool, true, false, cond, ◌&&◌, ◌||◌, eqb, ltb, leb, ◌⊎◌, List, [], ◌∷◌, length, get_or, drop, sym, refl, ap, ◌∙◌, subst, inl, inr, arith}
+use Rattle.std.proofs.Common.{◌≡◌, ℕ, zero, suc, ◌+◌, ◌<◌, ◌≤◌, true, cond, eqb, ltb, List, [], ◌∷◌, length, get_or, drop, sym, ap, ◌∙◌, inl, inr, arith}
 use Rattle.std.proofs.lemmas.List.{drop_more, get_or_read}
-use Rattle.std.proofs.lemmas.Bool.{and_parts, ltb-true, and_from, cases_lt}
-use Rattle.register.specs.Order.{tally, rising, each}
+use Rattle.std.proofs.lemmas.Bool.{and_parts, ltb-true, cases_lt}
+use Rattle.register.specs.Order.{tally, rising}
 use Rattle.bids.specs.Kinds.{Kind}
 
 module _ {B : Type 0} (k : Kind B) where

@@ -1,13 +1,11 @@
 -- Lawful registers, as they are tested and in words.
-use Rattle.std.proofs.Common.{◌≡◌, ℕ, zero, suc, ◌+◌, ◌-◌, ◌<◌, ◌≤◌, Bool, true, false, cond, not, ◌&&◌, ◌||◌, eqb, ltb, leb, ◌⊎◌, ◌↔◌, List, [], ◌∷◌, length, get_or, take, is_some as option_is_some, Some, None, Ok, Err, Option, sym, refl, ap, ◌∙◌, subst, inl, inr, arith}
-use Rattle.std.specs.List.{AllByRecursion as All}
-use Rattle.std.proofs.lemmas.Bool.{and_parts, and_from, or_parts, or_from, ltb-true, lt-ltb, leb-true, le-leb, eqb-true, eq-eqb, ne_eqb, not-true, not-false, not_from_true, not_from_false, cond-true, cond-false, cases_Bool, cases_lt, both_ways}
+use Rattle.std.proofs.Common.{◌≡◌, ℕ, zero, suc, ◌+◌, ◌<◌, ◌≤◌, Bool, true, false, cond, not, ◌&&◌, eqb, ltb, leb, ◌↔◌, List, [], ◌∷◌, is_some as option_is_some, Some, None, Ok, Option, sym, refl, ap, ◌∙◌, subst, inl, inr, arith}
+use Rattle.std.proofs.lemmas.Bool.{and_parts, and_from, or_parts, or_from, ltb-true, lt-ltb, leb-true, le-leb, eqb-true, eq-eqb, not-true, not-false, not_from_false, cases_Bool, cases_lt, both_ways}
 use Rattle.market.specs.Prices.{within}
 use Rattle.market.specs.declared.limits.Limits.{Limits}
-use Rattle.market.specs.declared.refusals.Rule.TheVariants as rules
 use Rattle.bids.specs.Kinds.{Kind}
 use Rattle.bids.specs.Registers.{hourly, block, flexible}
-use Rattle.bids.specs.Checks.{first_of, broken, or_else, first_where}
+use Rattle.bids.specs.Checks.{first_of, or_else, first_where}
 use Rattle.bids.specs.Blocks.{BlockForm, block_fault, block_spans, block_right, block_quantity}
 use Rattle.bids.specs.Flexibles.{FlexibleForm, flexible_fault, flexible_spans, flexible_right}
 use Rattle.bids.specs.Quantities.{one_side}
@@ -15,11 +13,10 @@ use Rattle.bids.specs.declared.rows.HourlyBid.{HourlyBid}
 use Rattle.bids.specs.declared.rows.BlockBid.{BlockBid}
 use Rattle.bids.specs.declared.rows.FlexibleBid.{FlexibleBid}
 use Rattle.bids.proofs.Checks.{no_fault}
-use Rattle.register.specs.Order.{each, known, tally, rising, ordered, Ordered, standing_as}
+use Rattle.register.specs.Order.{each, known, rising, ordered, standing_as}
 use Rattle.register.specs.Hours.{in_hour, hour_taken, apart, hour_right, hours_kept}
 use Rattle.register.specs.Families.{rank, level_count, parent_fits, parent_kept, family_fits, families_kept}
-use Rattle.register.specs.Entries.{Rules}
-use Rattle.register.specs.Lawful.{Tables, hourly_kept, block_alone, blocks_kept, flexible_alone, flexible_kept, lawful_table, register_rules}
+use Rattle.register.specs.Lawful.{Tables, hourly_kept, block_alone, blocks_kept, flexible_alone, flexible_kept, register_rules}
 use Rattle.register.specs.Words.{OfEach, OfTwo, InOrder, Lawful-hourly, ParentOf, LawfulBlocks, LawfulFlexible, LawfulRegisters}
 use Rattle.register.specs.declared.families.Rank.{Rank}
 use Rattle.register.specs.declared.lawful.Counts.{Counts}
@@ -27,7 +24,7 @@ use Rattle.register.proofs.Steps.{apart as rising_apart}
 use Rattle.register.proofs.Laws.{each_all, all_each, ordered_means, ordered_from}
 use Rattle.register.proofs.Each.{each_at, any_default}
 use Rattle.register.proofs.FamiliesCounted.{ranked}
-use Rattle.register.proofs.FamilyLaws.{Families, families_means, families_from, no_own_ancestor}
+use Rattle.register.proofs.FamilyLaws.{families_means, families_from, no_own_ancestor}
 use Rattle.register.proofs.Guards.{guarded, guard_passes}
 
 -- ---- by places

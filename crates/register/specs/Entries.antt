@@ -1,5 +1,5 @@
 -- The rules of entering and withdrawing, in the order in which they are looked at.
-use Rattle.std.specs.Prelude.{ℕ, min, Bool, not, ◌||◌, List, [], ◌∷◌, ◌++◌, length, Option, nat_le, nat_lt}
+use Rattle.std.specs.Prelude.{ℕ, min, not, ◌||◌, List, [], ◌∷◌, ◌++◌, length, Option, nat_le, nat_lt}
 use Rattle.market.specs.Prices.{within}
 use Rattle.market.specs.declared.limits.Limits.{Limits}
 use Rattle.market.specs.declared.refusals.Refusal.{Refusal}

@@ -1,5 +1,5 @@
 -- The families of blocks: a block without parent and everything below it.
-use Rattle.std.specs.Prelude.{ℕ, zero, suc, ◌+◌, Bool, true, false, cond, not, ◌&&◌, ◌||◌, List, [], ◌∷◌, Some, None, Option, ◌==◌, nat_eq, nat_le, nat_lt}
+use Rattle.std.specs.Prelude.{ℕ, zero, suc, ◌+◌, Bool, true, false, cond, ◌&&◌, ◌||◌, List, [], ◌∷◌, Some, None, Option, ◌==◌, nat_eq, nat_le, nat_lt}
 use Rattle.bids.specs.declared.rows.BlockBid.{BlockBid}
 use Rattle.bids.specs.Registers.{block}
 use Rattle.bids.specs.Blocks.{block_quantity}

@@ -1,5 +1,5 @@
 -- What lawful registers are, in words: of each bid, and of every two.
-use Rattle.std.specs.Prelude.{◌≡◌, ℕ, ◌+◌, ◌<◌, ◌≤◌, true, List, length, take, Some, None, ◌≢◌, slice_index_or}
+use Rattle.std.specs.Prelude.{◌≡◌, ℕ, ◌+◌, ◌<◌, ◌≤◌, true, List, length, take, Some, ◌≢◌, slice_index_or}
 use Rattle.market.specs.Prices.{within}
 use Rattle.market.specs.declared.limits.Limits.{Limits}
 use Rattle.bids.specs.Kinds.{Kind}

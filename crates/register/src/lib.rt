@@ -1,5 +1,6 @@
 //! Registers of bids: lent slices of which the first places hold bids by rising number; what makes them lawful, and
 //! which bids may be entered and withdrawn.
+#![tactic(auto)]
 
 pub mod entries;
 pub mod families;

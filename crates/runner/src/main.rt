@@ -1,4 +1,5 @@
 //! `dufnask`: runs call scripts on the days of a power market, and shows what the curves of an hour come to.
+#![tactic(auto)]
 
 use console::report::merit;
 use console::{Failure, help, read_text};

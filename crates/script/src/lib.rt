@@ -1,4 +1,5 @@
 //! Call scripts: what their lines say, the days that they run, and the report at their end.
+#![tactic(auto)]
 
 pub mod bench;
 pub mod calls;

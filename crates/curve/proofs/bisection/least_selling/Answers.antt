@@ -1,4 +1,4 @@
-use Rattle.std.proofs.Common.{◌≡◌, ℕ, ◌+◌, ◌-◌, ◌/◌, ◌<◌, ◌≤◌, arith}
+use Rattle.std.proofs.Common.{◌≡◌, ◌+◌, ◌-◌, ◌/◌, arith}
 use Rattle.market.specs.Lots.{traded}
 use Rattle.market.specs.declared.sides.Side.TheVariants.{Selling}
 use Rattle.curve.proofs.Worths.{ordered}

@@ -1,4 +1,4 @@
-use Rattle.std.proofs.Common.{◌≡◌, ℕ, ◌+◌, ◌-◌, ◌*◌, ◌<◌, ◌≤◌, Some, None, sym, ap, ◌∙◌, arith}
+use Rattle.std.proofs.Common.{◌≡◌, ◌+◌, ◌≤◌, Some, None, sym, ap, ◌∙◌, arith}
 use Rattle.market.specs.Lots.{traded}
 use Rattle.curve.specs.Gains.{sum_to, lot_worth}
 use Rattle.curve.specs.Worth.{WorthIs}

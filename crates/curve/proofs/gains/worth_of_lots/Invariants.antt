@@ -1,4 +1,4 @@
-use Rattle.std.proofs.Common.{◌≡◌, ℕ, ◌-◌, ◌*◌, ◌<◌, ◌≤◌}
+use Rattle.std.proofs.Common.{◌≡◌, ◌-◌, ◌*◌, ◌≤◌}
 use Rattle.curve.specs.Gains.{sum_to, lot_worth}
 use Rattle.curve.proofs.gains.worth_of_lots.Given as goal
 

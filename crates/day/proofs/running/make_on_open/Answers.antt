@@ -1,4 +1,4 @@
-use Rattle.std.proofs.Common.{sym, refl, ap, ◌∙◌}
+use Rattle.std.proofs.Common.{refl, ap, ◌∙◌}
 use Rattle.day.specs.declared.calls.Call.TheVariants as calls
 use Rattle.day.specs.declared.states.Day.TheVariants as days
 use Rattle.day.specs.Outcomes.{told}

@@ -1,5 +1,4 @@
 use Rattle.std.proofs.Common.{length}
-use Rattle.day.specs.Days.{places_of}
 use Rattle.day.proofs.Runs.{Running}
 use Rattle.day.proofs.running.run.Given as goal
 

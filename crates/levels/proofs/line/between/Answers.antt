@@ -1,7 +1,6 @@
-use Rattle.std.proofs.Common.{◌≡◌, ℕ, ◌-◌, ◌<◌, true, ℤ, pos, ◌+ℤ◌, ◌-ℤ◌, ◌*ℤ◌, sym, refl, ap, ◌∙◌, subst, arith, w32, w64, to_z, of_z}
+use Rattle.std.proofs.Common.{◌≡◌, ℕ, ◌-◌, ◌<◌, ℤ, pos, ◌+ℤ◌, ◌-ℤ◌, ◌*ℤ◌, sym, ap, ◌∙◌, subst, arith, w32, w64, to_z, of_z}
 use Rattle.std.proofs.lemmas.Int.{ints}
 use Rattle.levels.specs.declared.level.Level.{Level}
-use Rattle.levels.specs.Form.{bounded, follows}
 use Rattle.levels.specs.Lines.{span, scaled, nearest, between, Moderate}
 use Rattle.levels.specs.LinesLemmas.{Within, Line, line}
 use Rattle.levels.proofs.line.between.Goals as goal

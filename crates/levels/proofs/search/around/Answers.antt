@@ -1,4 +1,4 @@
-use Rattle.std.proofs.Common.{◌≡◌, ℕ, ◌-◌, ◌<◌, length, get_or, take, drop, sym, ap, ◌∙◌, arith}
+use Rattle.std.proofs.Common.{◌-◌, length, take, drop, sym, ◌∙◌}
 use Rattle.levels.specs.Tables.{zero_level}
 use Rattle.levels.proofs.Loops.{around_split, around_stop, around_step, around_end}
 use Rattle.levels.proofs.search.around.Goals as goal

@@ -1,4 +1,4 @@
-use Rattle.std.proofs.Common.{◌≡◌, ℕ, ◌-◌, ◌<◌, ◌≤◌, length, get_or, take, drop, Some, sym, refl, subst, arith, w32, SFits, rules}
+use Rattle.std.proofs.Common.{◌-◌, length, get_or, take, drop, Some, sym, refl, subst, arith, w32, SFits, rules}
 use Rattle.market.specs.declared.sides.Side.TheVariants.{Buying}
 use Rattle.curve.proofs.Bests.{lots_of}
 use Rattle.curve.specs.Worth.{WorthIs}

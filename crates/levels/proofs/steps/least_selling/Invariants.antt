@@ -1,4 +1,4 @@
-use Rattle.std.proofs.Common.{ℕ, ◌<◌, ◌≤◌, length, get_or}
+use Rattle.std.proofs.Common.{ℕ, ◌<◌, get_or}
 use Rattle.market.specs.Lots.{traded}
 use Rattle.market.specs.declared.sides.Side.TheVariants.{Selling}
 use Rattle.levels.specs.Tables.{zero_level}

@@ -1,4 +1,4 @@
-use Rattle.std.proofs.Common.{◌≡◌, ℕ, ◌+◌, ◌-◌, ◌<◌, length, get_or, take, drop, sym, subst, arith}
+use Rattle.std.proofs.Common.{◌≡◌, ◌+◌, ◌-◌, ◌<◌, length, take, drop, sym, subst, arith}
 use Rattle.levels.specs.Form.{LongestFront, kept_front}
 use Rattle.levels.specs.Tables.{zero_level}
 use Rattle.levels.proofs.Loops.{front_split, front_stop, front_step, front_end, later_length}

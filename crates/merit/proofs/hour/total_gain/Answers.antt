@@ -1,4 +1,4 @@
-use Rattle.std.proofs.Common.{◌≡◌, ℕ, ◌+◌, ◌<◌, length, get_or, take, ℤ, pos, sym, refl, ap, ◌∙◌, arith, take_all, w32, SFits, to_z, of_z, rules}
+use Rattle.std.proofs.Common.{◌≡◌, ◌<◌, length, get_or, take, pos, refl, ap, ◌∙◌, arith, take_all, w32, SFits, to_z, of_z, rules}
 use Rattle.std.proofs.lemmas.Int.{ints, to_z-of_z}
 use Rattle.curve.specs.Gains.{gain}
 use Rattle.merit.specs.Hours.{gains}

@@ -1,4 +1,4 @@
-use Rattle.std.proofs.Common.{◌≡◌, sym, ap, ◌∙◌, arith, take_all}
+use Rattle.std.proofs.Common.{ap, ◌∙◌, arith, take_all}
 use Rattle.std.proofs.lemmas.Int.{ints}
 use Rattle.curve.specs.Margins.{margin}
 use Rattle.merit.specs.Hours.{total}

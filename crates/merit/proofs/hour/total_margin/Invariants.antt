@@ -1,4 +1,4 @@
-use Rattle.std.proofs.Common.{◌≡◌, ◌*◌, ◌≤◌, take, pos, neg_ℤ, ◌≤ℤ◌}
+use Rattle.std.proofs.Common.{◌≡◌, ◌*◌, take, pos, neg_ℤ, ◌≤ℤ◌}
 use Rattle.curve.specs.Margins.{margin}
 use Rattle.merit.specs.Hours.{total}
 use Rattle.merit.proofs.hour.total_margin.Given as goal

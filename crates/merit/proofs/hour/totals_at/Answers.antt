@@ -1,4 +1,4 @@
-use Rattle.std.proofs.Common.{◌≡◌, ◌≤◌, sum_by, sym, ap, ◌∙◌, arith, take_all}
+use Rattle.std.proofs.Common.{◌≡◌, sum_by, ap, ◌∙◌, arith, take_all}
 use Rattle.market.specs.declared.sides.Side.TheVariants.{Buying, Selling}
 use Rattle.market.specs.Lots.{traded}
 use Rattle.curve.proofs.Bests.{lots_of}

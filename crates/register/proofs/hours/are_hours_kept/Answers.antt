@@ -1,4 +1,4 @@
-use Rattle.std.proofs.Common.{◌≡◌, sym, refl, arith}
+use Rattle.std.proofs.Common.{sym, refl, arith}
 use Rattle.std.proofs.lemmas.Bool.{le-leb, lt-leb}
 use Rattle.register.proofs.HourLaws.{participant_below, marked_none, marked_all, marked_more, stop_hour, stop_taken}
 use Rattle.register.proofs.hours.are_hours_kept.Goals as goal

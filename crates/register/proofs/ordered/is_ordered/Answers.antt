@@ -1,4 +1,4 @@
-use Rattle.std.proofs.Common.{◌≡◌, ℕ, ◌+◌, ◌<◌, ◌≤◌, get_or, set, sym, ap, ◌∙◌, subst, arith}
+use Rattle.std.proofs.Common.{◌+◌, get_or, set, sym, ap, subst, arith}
 use Rattle.register.proofs.Counted.{Counted, counted_none, counted_all, counted_more, stop_rising, stop_known, stop_few}
 use Rattle.register.proofs.ordered.is_ordered.Goals as goal
 use Rattle.register.proofs.ordered.is_ordered.Goals.{then-number-last-via-then-number-last, then-number-last-via-else-number-last+then-not-is_known}

@@ -1,4 +1,4 @@
-use Rattle.std.proofs.Common.{◌≡◌, true, length, take, Ok, Err, sym, ◌∙◌}
+use Rattle.std.proofs.Common.{◌≡◌, true, Ok, sym}
 use Rattle.std.proofs.lemmas.Result.{err_from_is_err_and}
 use Rattle.bids.specs.Registers.{block}
 use Rattle.bids.proofs.Checks.{stops}

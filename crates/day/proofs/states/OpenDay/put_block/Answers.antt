@@ -1,4 +1,4 @@
-use Rattle.std.proofs.Common.{length, refl, arith, length-take}
+use Rattle.std.proofs.Common.{refl, arith, length-take}
 use Rattle.day.proofs.Moves.{block_room, enters_block}
 use Rattle.day.proofs.states.OpenDay.put_block.Goals as goal
 

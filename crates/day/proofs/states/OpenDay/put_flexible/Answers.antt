@@ -1,4 +1,4 @@
-use Rattle.std.proofs.Common.{length, refl, arith, length-take}
+use Rattle.std.proofs.Common.{refl, arith, length-take}
 use Rattle.day.proofs.Moves.{flexible_room, enters_flexible}
 use Rattle.day.proofs.states.OpenDay.put_flexible.Goals as goal
 

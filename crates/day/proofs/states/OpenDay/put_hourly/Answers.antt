@@ -1,4 +1,4 @@
-use Rattle.std.proofs.Common.{length, refl, arith, length-take}
+use Rattle.std.proofs.Common.{refl, arith, length-take}
 use Rattle.day.proofs.Moves.{hourly_room, enters_hourly}
 use Rattle.day.proofs.states.OpenDay.put_hourly.Goals as goal
 

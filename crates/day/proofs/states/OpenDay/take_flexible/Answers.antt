@@ -1,4 +1,4 @@
-use Rattle.std.proofs.Common.{refl, arith}
+use Rattle.std.proofs.Common.{refl}
 use Rattle.bids.specs.Registers.{flexible}
 use Rattle.day.specs.declared.calls.Call.TheVariants as calls
 use Rattle.day.proofs.Moves.{guard_of, stands_within, leaves_flexible}

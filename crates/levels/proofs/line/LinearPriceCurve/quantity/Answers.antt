@@ -1,8 +1,8 @@
-use Rattle.std.proofs.Common.{◌≡◌, ℕ, ◌<◌, min, true, ℤ, Some, None, sym, refl, ap, ◌∙◌, subst, arith, w32, to_z, of_z}
+use Rattle.std.proofs.Common.{◌≡◌, min, sym, ap, ◌∙◌, subst, arith, w32, to_z, of_z}
 use Rattle.std.proofs.lemmas.Int.{ints}
 use Rattle.levels.specs.declared.search.Neighbours.{Neighbours}
 use Rattle.levels.specs.Search.{around}
-use Rattle.levels.specs.Lines.{linear, on_line, between, OnLine}
+use Rattle.levels.specs.Lines.{linear, on_line, OnLine}
 use Rattle.levels.specs.Tables.{in_force_of}
 use Rattle.levels.specs.Fronts.{force_formed}
 use Rattle.levels.specs.Chains.{NextIs, Neighbouring, neighbouring, bounds}

@@ -1,5 +1,4 @@
-use Rattle.std.proofs.Common.{◌≡◌, ◌<◌, true, length, sym, subst, arith}
-use Rattle.levels.specs.Form.{formed}
+use Rattle.std.proofs.Common.{sym, subst, arith}
 use Rattle.levels.specs.Fronts.{Formed, force_formed}
 use Rattle.levels.proofs.steps.SteppedValuedCurve.worth.Goals as goal
 

@@ -1,4 +1,4 @@
-use Rattle.std.proofs.Common.{◌≡◌, ℕ, ◌-◌, min, length, take, sym, ap, ◌∙◌, arith}
+use Rattle.std.proofs.Common.{◌≡◌, ◌-◌, min, length, take, ap, ◌∙◌, arith}
 use Rattle.levels.specs.Form.{kept_front}
 use Rattle.levels.specs.Fronts.{force_none, force_some}
 use Rattle.levels.proofs.table.LevelTable.in_force.Goals as goal

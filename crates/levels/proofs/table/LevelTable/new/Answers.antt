@@ -1,8 +1,8 @@
-use Rattle.std.proofs.Common.{◌≡◌, ℕ, ◌-◌, ◌<◌, ◌≤◌, true, ◌++◌, length, take, replicate, sym, refl, ap, ◌∙◌, subst, arith}
+use Rattle.std.proofs.Common.{◌≡◌, ◌<◌, ◌≤◌, true, length, ap, ◌∙◌, subst, arith}
 use Rattle.std.proofs.lemmas.List.{take_all}
 use Rattle.std.proofs.lemmas.Bool.{and_from, lt-ltb, le-leb}
 use Rattle.levels.specs.Form.{formed}
-use Rattle.levels.specs.Tables.{zero_level, in_force_of, table_of, Taken}
+use Rattle.levels.specs.Tables.{in_force_of, table_of}
 use Rattle.levels.specs.Fronts.{force_made}
 use Rattle.levels.proofs.table.LevelTable.new.Goals as goal
 
