@@ -17,8 +17,8 @@ impl<C: PriceCurve + Copy> OpenDay<C> {
         blocks: &[BlockBid],
         flexible: &[FlexibleBid],
     ) -> Result<ClosedDay<C>, (OpenDay<C>, Refusal)>
-        ensures exact { Closed self (record { hourly = hourly.entry.now; blocks = blocks.now; flexible = flexible.now }) result }
-        ensures since { TellsOnClosed self (record { hourly = hourly.entry.now; blocks = blocks.now; flexible = flexible.now }) result }
+        ensures exact { Closed self (record { hourly = hourly.now; blocks = blocks.now; flexible = flexible.now }) result }
+        ensures since { TellsOnClosed self (record { hourly = hourly.now; blocks = blocks.now; flexible = flexible.now }) result }
     {
         match check_registers(self.limits, self.counts, hourly, blocks, flexible) {
             Ok(()) => {

@@ -22,8 +22,8 @@ impl<C: PriceCurve + Copy> OpenDay<C> {
         flexible: &[FlexibleBid],
         bid: HourlyBid<C>,
     ) -> Result<(), Refusal>
-        ensures exact { Done (EnterHourly bid) self.old (record { hourly = hourly.entry.now; blocks = blocks.now; flexible = flexible.now }) result self.new (record { hourly = hourly.exit.now; blocks = blocks.now; flexible = flexible.now }) }
-        ensures since { TellsOn (EnterHourly bid) self.old (record { hourly = hourly.entry.now; blocks = blocks.now; flexible = flexible.now }) result self.new (record { hourly = hourly.exit.now; blocks = blocks.now; flexible = flexible.now }) }
+        ensures exact { Done (EnterHourly bid) self.old (record { hourly = hourly.old; blocks = blocks.now; flexible = flexible.now }) result self.new (record { hourly = hourly.new; blocks = blocks.now; flexible = flexible.now }) }
+        ensures since { TellsOn (EnterHourly bid) self.old (record { hourly = hourly.old; blocks = blocks.now; flexible = flexible.now }) result self.new (record { hourly = hourly.new; blocks = blocks.now; flexible = flexible.now }) }
     {
         self.put_hourly(hourly, blocks, flexible, bid)
     }
@@ -36,8 +36,8 @@ impl<C: PriceCurve + Copy> OpenDay<C> {
         flexible: &[FlexibleBid],
         bid: BlockBid,
     ) -> Result<(), Refusal>
-        ensures exact { Done (EnterBlock bid) self.old (record { hourly = hourly.entry.now; blocks = blocks.old; flexible = flexible.now }) result self.new (record { hourly = hourly.entry.now; blocks = blocks.new; flexible = flexible.now }) }
-        ensures since { TellsOn (EnterBlock bid) self.old (record { hourly = hourly.entry.now; blocks = blocks.old; flexible = flexible.now }) result self.new (record { hourly = hourly.entry.now; blocks = blocks.new; flexible = flexible.now }) }
+        ensures exact { Done (EnterBlock bid) self.old (record { hourly = hourly.now; blocks = blocks.old; flexible = flexible.now }) result self.new (record { hourly = hourly.now; blocks = blocks.new; flexible = flexible.now }) }
+        ensures since { TellsOn (EnterBlock bid) self.old (record { hourly = hourly.now; blocks = blocks.old; flexible = flexible.now }) result self.new (record { hourly = hourly.now; blocks = blocks.new; flexible = flexible.now }) }
     {
         self.put_block(hourly, blocks, flexible, bid)
     }
@@ -50,8 +50,8 @@ impl<C: PriceCurve + Copy> OpenDay<C> {
         flexible: &mut [FlexibleBid],
         bid: FlexibleBid,
     ) -> Result<(), Refusal>
-        ensures exact { Done (EnterFlexible bid) self.old (record { hourly = hourly.entry.now; blocks = blocks.now; flexible = flexible.old }) result self.new (record { hourly = hourly.entry.now; blocks = blocks.now; flexible = flexible.new }) }
-        ensures since { TellsOn (EnterFlexible bid) self.old (record { hourly = hourly.entry.now; blocks = blocks.now; flexible = flexible.old }) result self.new (record { hourly = hourly.entry.now; blocks = blocks.now; flexible = flexible.new }) }
+        ensures exact { Done (EnterFlexible bid) self.old (record { hourly = hourly.now; blocks = blocks.now; flexible = flexible.old }) result self.new (record { hourly = hourly.now; blocks = blocks.now; flexible = flexible.new }) }
+        ensures since { TellsOn (EnterFlexible bid) self.old (record { hourly = hourly.now; blocks = blocks.now; flexible = flexible.old }) result self.new (record { hourly = hourly.now; blocks = blocks.now; flexible = flexible.new }) }
     {
         self.put_flexible(hourly, blocks, flexible, bid)
     }
@@ -64,7 +64,7 @@ impl<C: PriceCurve + Copy> OpenDay<C> {
         flexible: &[FlexibleBid],
         bid: HourlyBid<C>,
     ) -> Result<(), Refusal>
-        ensures { Done (EnterHourly bid) self.old (record { hourly = hourly.entry.now; blocks = blocks.now; flexible = flexible.now }) result self.new (record { hourly = hourly.exit.now; blocks = blocks.now; flexible = flexible.now }) }
+        ensures { Done (EnterHourly bid) self.old (record { hourly = hourly.old; blocks = blocks.now; flexible = flexible.now }) result self.new (record { hourly = hourly.new; blocks = blocks.now; flexible = flexible.now }) }
     {
         let place = self.place_for_hourly(hourly, blocks, flexible, &bid)?;
         insert(hourly, self.counts.hourly, place, bid);
@@ -80,7 +80,7 @@ impl<C: PriceCurve + Copy> OpenDay<C> {
         flexible: &[FlexibleBid],
         bid: BlockBid,
     ) -> Result<(), Refusal>
-        ensures { Done (EnterBlock bid) self.old (record { hourly = hourly.entry.now; blocks = blocks.old; flexible = flexible.now }) result self.new (record { hourly = hourly.entry.now; blocks = blocks.new; flexible = flexible.now }) }
+        ensures { Done (EnterBlock bid) self.old (record { hourly = hourly.now; blocks = blocks.old; flexible = flexible.now }) result self.new (record { hourly = hourly.now; blocks = blocks.new; flexible = flexible.now }) }
     {
         let place = self.place_for_block(hourly, blocks, flexible, &bid)?;
         insert(blocks, self.counts.blocks, place, bid);
@@ -96,7 +96,7 @@ impl<C: PriceCurve + Copy> OpenDay<C> {
         flexible: &mut [FlexibleBid],
         bid: FlexibleBid,
     ) -> Result<(), Refusal>
-        ensures { Done (EnterFlexible bid) self.old (record { hourly = hourly.entry.now; blocks = blocks.now; flexible = flexible.old }) result self.new (record { hourly = hourly.entry.now; blocks = blocks.now; flexible = flexible.new }) }
+        ensures { Done (EnterFlexible bid) self.old (record { hourly = hourly.now; blocks = blocks.now; flexible = flexible.old }) result self.new (record { hourly = hourly.now; blocks = blocks.now; flexible = flexible.new }) }
     {
         let place = self.place_for_flexible(hourly, blocks, flexible, &bid)?;
         insert(flexible, self.counts.flexible, place, bid);
@@ -112,7 +112,7 @@ impl<C: PriceCurve + Copy> OpenDay<C> {
         flexible: &[FlexibleBid],
         bid: &HourlyBid<C>,
     ) -> Result<usize, Refusal>
-        ensures { GoesOn (day_rules self.now.limits self.now.counts (record { hourly = hourly.entry.now; blocks = blocks.now; flexible = flexible.now }) (EnterHourly bid.now)) (λ at. Placed hourly_kind bid.now.number (take self.now.counts.hourly hourly.entry.now) (Err at)) result }
+        ensures { GoesOn (day_rules self.now.limits self.now.counts (record { hourly = hourly.now; blocks = blocks.now; flexible = flexible.now }) (EnterHourly bid.now)) (λ at. Placed hourly_kind bid.now.number (take self.now.counts.hourly hourly.now) (Err at)) result }
     {
         check_registers(self.limits, self.counts, hourly, blocks, flexible)?;
         let bids = &hourly[0..self.counts.hourly];
@@ -127,7 +127,7 @@ impl<C: PriceCurve + Copy> OpenDay<C> {
         flexible: &[FlexibleBid],
         bid: &BlockBid,
     ) -> Result<usize, Refusal>
-        ensures { GoesOn (day_rules self.now.limits self.now.counts (record { hourly = hourly.entry.now; blocks = blocks.now; flexible = flexible.now }) (EnterBlock bid.now)) (λ at. Placed block_kind bid.now.number (take self.now.counts.blocks blocks.now) (Err at)) result }
+        ensures { GoesOn (day_rules self.now.limits self.now.counts (record { hourly = hourly.now; blocks = blocks.now; flexible = flexible.now }) (EnterBlock bid.now)) (λ at. Placed block_kind bid.now.number (take self.now.counts.blocks blocks.now) (Err at)) result }
     {
         check_registers(self.limits, self.counts, hourly, blocks, flexible)?;
         let bids = &blocks[0..self.counts.blocks];
@@ -142,7 +142,7 @@ impl<C: PriceCurve + Copy> OpenDay<C> {
         flexible: &[FlexibleBid],
         bid: &FlexibleBid,
     ) -> Result<usize, Refusal>
-        ensures { GoesOn (day_rules self.now.limits self.now.counts (record { hourly = hourly.entry.now; blocks = blocks.now; flexible = flexible.now }) (EnterFlexible bid.now)) (λ at. Placed flexible_kind bid.now.number (take self.now.counts.flexible flexible.now) (Err at)) result }
+        ensures { GoesOn (day_rules self.now.limits self.now.counts (record { hourly = hourly.now; blocks = blocks.now; flexible = flexible.now }) (EnterFlexible bid.now)) (λ at. Placed flexible_kind bid.now.number (take self.now.counts.flexible flexible.now) (Err at)) result }
     {
         check_registers(self.limits, self.counts, hourly, blocks, flexible)?;
         let bids = &flexible[0..self.counts.flexible];

@@ -19,7 +19,7 @@ pub fn run<C: PriceCurve + Copy>(
     flexible: &mut [FlexibleBid],
     steps: &mut [Step<C>],
 ) -> Result<Day<C>, Refusal>
-    ensures { Runs (record { lowest = lowest; highest = highest }) steps.old steps.new (record { hourly = hourly.entry.now; blocks = blocks.old; flexible = flexible.old }) (record { hourly = hourly.exit.now; blocks = blocks.new; flexible = flexible.new }) result }
+    ensures { Runs (record { lowest = lowest; highest = highest }) steps.old steps.new (record { hourly = hourly.old; blocks = blocks.old; flexible = flexible.old }) (record { hourly = hourly.new; blocks = blocks.new; flexible = flexible.new }) result }
 {
     let mut day = Day::Open(open(lowest, highest)?);
     for index in 0..steps.len() {
@@ -42,7 +42,7 @@ fn make<C: PriceCurve + Copy>(
     flexible: &mut [FlexibleBid],
     call: Call<C>,
 ) -> (Day<C>, Outcome)
-    ensures { MovesOn call day (record { hourly = hourly.entry.now; blocks = blocks.old; flexible = flexible.old }) result.1 result.0 (record { hourly = hourly.exit.now; blocks = blocks.new; flexible = flexible.new }) }
+    ensures { MovesOn call day (record { hourly = hourly.old; blocks = blocks.old; flexible = flexible.old }) result.1 result.0 (record { hourly = hourly.new; blocks = blocks.new; flexible = flexible.new }) }
 {
     match day {
         Day::Open(open) => make_on_open(open, hourly, blocks, flexible, call),
@@ -58,7 +58,7 @@ fn make_on_open<C: PriceCurve + Copy>(
     flexible: &mut [FlexibleBid],
     call: Call<C>,
 ) -> (Day<C>, Outcome)
-    ensures { MovesOn call (Day.Open day) (record { hourly = hourly.entry.now; blocks = blocks.old; flexible = flexible.old }) result.1 result.0 (record { hourly = hourly.exit.now; blocks = blocks.new; flexible = flexible.new }) }
+    ensures { MovesOn call (Day.Open day) (record { hourly = hourly.old; blocks = blocks.old; flexible = flexible.old }) result.1 result.0 (record { hourly = hourly.new; blocks = blocks.new; flexible = flexible.new }) }
 {
     let answer = match call {
         Call::EnterHourly(bid) => day.enter_hourly(hourly, blocks, flexible, bid),

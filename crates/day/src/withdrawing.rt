@@ -22,8 +22,8 @@ impl<C: PriceCurve + Copy> OpenDay<C> {
         flexible: &[FlexibleBid],
         number: u16,
     ) -> Result<(), Refusal>
-        ensures exact { Done (WithdrawHourly number) self.old (record { hourly = hourly.entry.now; blocks = blocks.now; flexible = flexible.now }) result self.new (record { hourly = hourly.exit.now; blocks = blocks.now; flexible = flexible.now }) }
-        ensures since { TellsOn (WithdrawHourly number) self.old (record { hourly = hourly.entry.now; blocks = blocks.now; flexible = flexible.now }) result self.new (record { hourly = hourly.exit.now; blocks = blocks.now; flexible = flexible.now }) }
+        ensures exact { Done (WithdrawHourly number) self.old (record { hourly = hourly.old; blocks = blocks.now; flexible = flexible.now }) result self.new (record { hourly = hourly.new; blocks = blocks.now; flexible = flexible.now }) }
+        ensures since { TellsOn (WithdrawHourly number) self.old (record { hourly = hourly.old; blocks = blocks.now; flexible = flexible.now }) result self.new (record { hourly = hourly.new; blocks = blocks.now; flexible = flexible.now }) }
     {
         self.take_hourly(hourly, blocks, flexible, number)
     }
@@ -36,8 +36,8 @@ impl<C: PriceCurve + Copy> OpenDay<C> {
         flexible: &[FlexibleBid],
         number: u16,
     ) -> Result<(), Refusal>
-        ensures exact { Done (WithdrawBlock number) self.old (record { hourly = hourly.entry.now; blocks = blocks.old; flexible = flexible.now }) result self.new (record { hourly = hourly.entry.now; blocks = blocks.new; flexible = flexible.now }) }
-        ensures since { TellsOn (WithdrawBlock number) self.old (record { hourly = hourly.entry.now; blocks = blocks.old; flexible = flexible.now }) result self.new (record { hourly = hourly.entry.now; blocks = blocks.new; flexible = flexible.now }) }
+        ensures exact { Done (WithdrawBlock number) self.old (record { hourly = hourly.now; blocks = blocks.old; flexible = flexible.now }) result self.new (record { hourly = hourly.now; blocks = blocks.new; flexible = flexible.now }) }
+        ensures since { TellsOn (WithdrawBlock number) self.old (record { hourly = hourly.now; blocks = blocks.old; flexible = flexible.now }) result self.new (record { hourly = hourly.now; blocks = blocks.new; flexible = flexible.now }) }
     {
         self.take_block(hourly, blocks, flexible, number)
     }
@@ -50,8 +50,8 @@ impl<C: PriceCurve + Copy> OpenDay<C> {
         flexible: &mut [FlexibleBid],
         number: u16,
     ) -> Result<(), Refusal>
-        ensures exact { Done (WithdrawFlexible number) self.old (record { hourly = hourly.entry.now; blocks = blocks.now; flexible = flexible.old }) result self.new (record { hourly = hourly.entry.now; blocks = blocks.now; flexible = flexible.new }) }
-        ensures since { TellsOn (WithdrawFlexible number) self.old (record { hourly = hourly.entry.now; blocks = blocks.now; flexible = flexible.old }) result self.new (record { hourly = hourly.entry.now; blocks = blocks.now; flexible = flexible.new }) }
+        ensures exact { Done (WithdrawFlexible number) self.old (record { hourly = hourly.now; blocks = blocks.now; flexible = flexible.old }) result self.new (record { hourly = hourly.now; blocks = blocks.now; flexible = flexible.new }) }
+        ensures since { TellsOn (WithdrawFlexible number) self.old (record { hourly = hourly.now; blocks = blocks.now; flexible = flexible.old }) result self.new (record { hourly = hourly.now; blocks = blocks.now; flexible = flexible.new }) }
     {
         self.take_flexible(hourly, blocks, flexible, number)
     }
@@ -64,7 +64,7 @@ impl<C: PriceCurve + Copy> OpenDay<C> {
         flexible: &[FlexibleBid],
         number: u16,
     ) -> Result<(), Refusal>
-        ensures { Done (WithdrawHourly number) self.old (record { hourly = hourly.entry.now; blocks = blocks.now; flexible = flexible.now }) result self.new (record { hourly = hourly.exit.now; blocks = blocks.now; flexible = flexible.now }) }
+        ensures { Done (WithdrawHourly number) self.old (record { hourly = hourly.old; blocks = blocks.now; flexible = flexible.now }) result self.new (record { hourly = hourly.new; blocks = blocks.now; flexible = flexible.now }) }
     {
         let place = self.place_of_hourly(hourly, blocks, flexible, number)?;
         remove(hourly, self.counts.hourly, place);
@@ -80,7 +80,7 @@ impl<C: PriceCurve + Copy> OpenDay<C> {
         flexible: &[FlexibleBid],
         number: u16,
     ) -> Result<(), Refusal>
-        ensures { Done (WithdrawBlock number) self.old (record { hourly = hourly.entry.now; blocks = blocks.old; flexible = flexible.now }) result self.new (record { hourly = hourly.entry.now; blocks = blocks.new; flexible = flexible.now }) }
+        ensures { Done (WithdrawBlock number) self.old (record { hourly = hourly.now; blocks = blocks.old; flexible = flexible.now }) result self.new (record { hourly = hourly.now; blocks = blocks.new; flexible = flexible.now }) }
     {
         let place = self.place_of_block(hourly, blocks, flexible, number)?;
         remove(blocks, self.counts.blocks, place);
@@ -96,7 +96,7 @@ impl<C: PriceCurve + Copy> OpenDay<C> {
         flexible: &mut [FlexibleBid],
         number: u16,
     ) -> Result<(), Refusal>
-        ensures { Done (WithdrawFlexible number) self.old (record { hourly = hourly.entry.now; blocks = blocks.now; flexible = flexible.old }) result self.new (record { hourly = hourly.entry.now; blocks = blocks.now; flexible = flexible.new }) }
+        ensures { Done (WithdrawFlexible number) self.old (record { hourly = hourly.now; blocks = blocks.now; flexible = flexible.old }) result self.new (record { hourly = hourly.now; blocks = blocks.now; flexible = flexible.new }) }
     {
         let place = self.place_of_flexible(hourly, blocks, flexible, number)?;
         remove(flexible, self.counts.flexible, place);
@@ -112,7 +112,7 @@ impl<C: PriceCurve + Copy> OpenDay<C> {
         flexible: &[FlexibleBid],
         number: u16,
     ) -> Result<usize, Refusal>
-        ensures { GoesOn (day_rules self.now.limits self.now.counts (record { hourly = hourly.entry.now; blocks = blocks.now; flexible = flexible.now }) (WithdrawHourly number)) (λ at. Placed hourly_kind number (take self.now.counts.hourly hourly.entry.now) (Ok at)) result }
+        ensures { GoesOn (day_rules self.now.limits self.now.counts (record { hourly = hourly.now; blocks = blocks.now; flexible = flexible.now }) (WithdrawHourly number)) (λ at. Placed hourly_kind number (take self.now.counts.hourly hourly.now) (Ok at)) result }
     {
         check_registers(self.limits, self.counts, hourly, blocks, flexible)?;
         judge_withdrawal(&hourly[0..self.counts.hourly], number)
@@ -126,7 +126,7 @@ impl<C: PriceCurve + Copy> OpenDay<C> {
         flexible: &[FlexibleBid],
         number: u16,
     ) -> Result<usize, Refusal>
-        ensures { GoesOn (day_rules self.now.limits self.now.counts (record { hourly = hourly.entry.now; blocks = blocks.now; flexible = flexible.now }) (WithdrawBlock number)) (λ at. Placed block_kind number (take self.now.counts.blocks blocks.now) (Ok at)) result }
+        ensures { GoesOn (day_rules self.now.limits self.now.counts (record { hourly = hourly.now; blocks = blocks.now; flexible = flexible.now }) (WithdrawBlock number)) (λ at. Placed block_kind number (take self.now.counts.blocks blocks.now) (Ok at)) result }
     {
         check_registers(self.limits, self.counts, hourly, blocks, flexible)?;
         judge_block_withdrawal(&blocks[0..self.counts.blocks], number)
@@ -140,7 +140,7 @@ impl<C: PriceCurve + Copy> OpenDay<C> {
         flexible: &[FlexibleBid],
         number: u16,
     ) -> Result<usize, Refusal>
-        ensures { GoesOn (day_rules self.now.limits self.now.counts (record { hourly = hourly.entry.now; blocks = blocks.now; flexible = flexible.now }) (WithdrawFlexible number)) (λ at. Placed flexible_kind number (take self.now.counts.flexible flexible.now) (Ok at)) result }
+        ensures { GoesOn (day_rules self.now.limits self.now.counts (record { hourly = hourly.now; blocks = blocks.now; flexible = flexible.now }) (WithdrawFlexible number)) (λ at. Placed flexible_kind number (take self.now.counts.flexible flexible.now) (Ok at)) result }
     {
         check_registers(self.limits, self.counts, hourly, blocks, flexible)?;
         judge_withdrawal(&flexible[0..self.counts.flexible], number)

@@ -17,7 +17,7 @@ pub fn one_day(
     flexible: &[FlexibleBid],
     bid: HourlyBid<Flat>,
 ) -> Result<ClosedDay<Flat>, Refusal>
-    ensures { IfOk result (λ closed. SinceClosed (record { lowest = 0; highest = 100 }) (noted (noted [] (record { hourly = hourly.entry.now; blocks = blocks.now; flexible = flexible.now }) (EnterHourly bid) (Ok tt)) (record { hourly = hourly.exit.now; blocks = blocks.now; flexible = flexible.now }) Close (Ok tt)) closed (record { hourly = hourly.exit.now; blocks = blocks.now; flexible = flexible.now })) }
+    ensures { IfOk result (λ closed. SinceClosed (record { lowest = 0; highest = 100 }) (noted (noted [] (record { hourly = hourly.old; blocks = blocks.now; flexible = flexible.now }) (EnterHourly bid) (Ok tt)) (record { hourly = hourly.new; blocks = blocks.now; flexible = flexible.now }) Close (Ok tt)) closed (record { hourly = hourly.new; blocks = blocks.now; flexible = flexible.now })) }
 {
     let mut day: OpenDay<Flat> = open(0, 100)?;
     day.enter_hourly(hourly, blocks, flexible, bid)?;

@@ -23,7 +23,7 @@ impl Holding {
         flexible: &[FlexibleBid],
         participant: u16,
     ) -> Holding
-        ensures { result ≡ record { hourly = tally hourly_kind participant hourly.entry.now; blocks = tally block_kind participant blocks.now; flexible = tally flexible_kind participant flexible.now } }
+        ensures { result ≡ record { hourly = tally hourly_kind participant hourly.now; blocks = tally block_kind participant blocks.now; flexible = tally flexible_kind participant flexible.now } }
     {
         Holding {
             hourly: standing(hourly, participant),

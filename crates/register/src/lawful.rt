@@ -28,8 +28,8 @@ pub fn check_registers<C>(
     blocks: &[BlockBid],
     flexible: &[FlexibleBid],
 ) -> Result<(), Refusal>
-    ensures value { result ≡ first_of (register_rules limits counts (record { hourly = hourly.entry.now; blocks = blocks.now; flexible = flexible.now })) }
-    ensures words { (result ≡ Ok tt) ↔ LawfulRegisters limits counts (record { hourly = hourly.entry.now; blocks = blocks.now; flexible = flexible.now }) }
+    ensures value { result ≡ first_of (register_rules limits counts (record { hourly = hourly.now; blocks = blocks.now; flexible = flexible.now })) }
+    ensures words { (result ≡ Ok tt) ↔ LawfulRegisters limits counts (record { hourly = hourly.now; blocks = blocks.now; flexible = flexible.now }) }
 {
     first_unlawful(limits, counts, hourly, blocks, flexible)
 }
@@ -42,7 +42,7 @@ fn first_unlawful<C>(
     blocks: &[BlockBid],
     flexible: &[FlexibleBid],
 ) -> Result<(), Refusal>
-    ensures { result ≡ first_of (register_rules limits counts (record { hourly = hourly.entry.now; blocks = blocks.now; flexible = flexible.now })) }
+    ensures { result ≡ first_of (register_rules limits counts (record { hourly = hourly.now; blocks = blocks.now; flexible = flexible.now })) }
 {
     if !is_hourly_lawful(hourly, counts.hourly) {
         return Err(unlawful(1));
