@@ -2,7 +2,7 @@
 
 ghost use Rattle.std.specs.Prelude.{◌≡◌};
 ghost use Rattle.levels.specs.Flats.{flat_quantity, flat_reach, MadeFlat};
-ghost use Rattle.std.proofs.Common.{rules};
+ghost use Rattle.levels.specs.FlatLaws.{flat_laws};
 
 use crate::level::MOST_LOTS;
 use curve::{PriceCurve, ValuedCurve};
@@ -34,7 +34,7 @@ impl PriceCurve for Flat {
 
     ghost extent = { λ c. flat_reach c.quantity };
 
-    ghost kept = { Prim.search rules };
+    ghost kept = { λ c. flat_laws c.quantity };
 
     fn quantity(&self, _price: u32) -> i32 {
         if self.quantity < -MOST_LOTS || self.quantity > MOST_LOTS {

@@ -1,6 +1,6 @@
 -- What keeps the families of blocks right: a block that may join is entered, and a block without child is withdrawn.
 use Rattle.std.proofs.Common.{◌≡◌, ℕ, zero, suc, ◌+◌, ◌<◌, ◌≤◌, Bool, true, false, cond, ◌&&◌, ◌||◌, eqb, ltb, leb, List, [], ◌∷◌, is_some, Some, None, Option, sym, refl, ap, ◌∙◌, subst, inl, inr, arith}
-use Rattle.std.specs.List.{AllByRecursion as All}
+use Rattle.std.specs.List.{AllByRecursion}
 use Rattle.std.proofs.lemmas.Bool.{false≢true, and_parts, and_from, or_cases, or_parts, leb-true, ltb-true, eqb-true, eqb-false, ne_eqb, cond-true, cond-false, cond_both, cases_Bool, cases_eq, cases_lt}
 use Rattle.std.proofs.ByRecursion.{All-get_or, All-weaker}
 use Rattle.bids.specs.Kinds.{Kind}
@@ -15,13 +15,13 @@ use Rattle.register.proofs.FamiliesRanks.{cases_some, some_not_none, kept_parent
 use Rattle.register.proofs.FamiliesCounted.{ranked, kept_by, kept_each, fits_from, at_most_one, none_at_top, none_elsewhere}
 
 -- two facts of each
-pub all_both : {X : Type 0} (P Q : X → Type 0) (xs : List X) → All P xs → All Q xs → All (λ x. P x × Q x) xs
+pub all_both : {X : Type 0} (P Q : X → Type 0) (xs : List X) → AllByRecursion P xs → AllByRecursion Q xs → AllByRecursion (λ x. P x × Q x) xs
 all_both P Q [] a b = tt
 all_both P Q (x ∷ xs) a b = ((a.0, b.0), all_both P Q xs a.1 b.1)
 
 -- the bid that stands under a number, by what holds of all, by one entered and by one withdrawn
 module _ {B : Type 0} (k : Kind B) where
-  pub standing_all : (P : B → Type 0) (n : ℕ) (xs : List B) (y : B) → All P xs → standing_as k n xs ≡ Some y → P y
+  pub standing_all : (P : B → Type 0) (n : ℕ) (xs : List B) (y : B) → AllByRecursion P xs → standing_as k n xs ≡ Some y → P y
   standing_all P n [] y a e = absurd (some_not_none {X = B} None y refl e)
   standing_all P n (x ∷ xs) y a e =
       elim (cases_Bool (eqb (k.number_of x) n)) as (λ _. P y) [
@@ -53,7 +53,7 @@ module _ {B : Type 0} (k : Kind B) where
 -- two lists of blocks with the same bid under each number but n, where none of the first names n as its parent
 pub record Alike (n : ℕ) (xs ys : List BlockBid) : Type 0 where
   pub same : (m : ℕ) → (m ≡ n → ⊥) → standing_as block m ys ≡ standing_as block m xs
-  pub no_child : All (λ x. names_parent n x ≡ false) xs
+  pub no_child : AllByRecursion (λ x. names_parent n x ≡ false) xs
 
 module _ (n : ℕ) (xs ys : List BlockBid) (a : Alike n xs ys) where
   named_other : (b : BlockBid) (p : ℕ) → names_parent n b ≡ false → b.parent ≡ Some p → p ≡ n → ⊥
@@ -86,7 +86,7 @@ module _ (n : ℕ) (xs ys : List BlockBid) (a : Alike n xs ys) where
   rank_alike b h = from_alike 2 0 b h
 
   -- so each level has the same blocks of xs
-  levels_alike : (l h : ℕ) (zs : List BlockBid) → All (λ x. names_parent n x ≡ false) zs → level_count ys l h zs ≡ level_count xs l h zs
+  levels_alike : (l h : ℕ) (zs : List BlockBid) → AllByRecursion (λ x. names_parent n x ≡ false) zs → level_count ys l h zs ≡ level_count xs l h zs
   levels_alike l h [] c = refl
   levels_alike l h (x ∷ zs) c =
       let r = levels_alike l h zs c.1 in
@@ -98,8 +98,8 @@ module _ (n : ℕ) (xs ys : List BlockBid) (a : Alike n xs ys) where
 
 -- the families of blocks are right, in words: each parent fits, each block has a rank, and no family is too large
 pub record Families (xs : List BlockBid) : Type 0 where
-  pub parents : All (λ x. parent_kept xs x ≡ true) xs
-  pub ranks : All (λ x. ranked xs x ≡ true) xs
+  pub parents : AllByRecursion (λ x. parent_kept xs x ≡ true) xs
+  pub ranks : AllByRecursion (λ x. ranked xs x ≡ true) xs
   pub fits : (h : ℕ) → family_fits xs h ≡ true
 
 kept_ranked : (all : List BlockBid) (o : Option Rank) → kept_by all o ≡ true → is_some o ≡ true
@@ -160,7 +160,7 @@ level_without all l h n (x ∷ xs) =
     cond_both (eqb x.number n) xs (x ∷ without block n xs) (λ ys. level_count all l h ys ≤ level_count all l h (x ∷ xs)) (λ e. omega arith) (λ e. omega (arith, r))
 
 -- no child stands, in words
-no_child_all : (n : ℕ) (xs : List BlockBid) → child_stands n xs ≡ false → All (λ x. names_parent n x ≡ false) xs
+no_child_all : (n : ℕ) (xs : List BlockBid) → child_stands n xs ≡ false → AllByRecursion (λ x. names_parent n x ≡ false) xs
 no_child_all n [] h = tt
 no_child_all n (x ∷ xs) h = let q = or_parts (names_parent n x) (child_stands n xs) h in (q.0, no_child_all n xs q.1)
 

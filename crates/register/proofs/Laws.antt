@@ -1,17 +1,17 @@
 -- What holds of registers as lists: what a place says of them, and what keeps them lawful.
 use Rattle.std.proofs.Common.{◌≡◌, ℕ, zero, suc, ◌+◌, ◌-◌, ◌<◌, ◌≤◌, Bool, true, false, cond, ◌||◌, eqb, ltb, List, [], ◌∷◌, length, get_or, take, is_ok, Ok, Err, Result, sym, refl, ap, ◌∙◌, subst, inl, inr, arith}
-use Rattle.std.specs.List.{AllByRecursion as All, insert, remove}
+use Rattle.std.specs.List.{AllByRecursion, insert, remove}
 use Rattle.std.proofs.lemmas.Bool.{and_parts, and_from, or_from, or_parts, or_left, or_right, ltb-true, ltb-false, lt-ltb, le-ltb, leb-true, le-leb, eqb-true, eqb-false, eq-eqb, ne_eqb, cond-true, cond-false, cond_both, cases_lt, cases_Bool}
 use Rattle.bids.specs.Kinds.{Kind}
 use Rattle.register.specs.Order.{each, stands, tally, entered, without, rising, known, few, ordered, Placed, Ordered}
 use Rattle.register.proofs.Steps.{above}
 
 -- what is true of each, as a test and in words
-pub each_all : {X : Type 0} (t : X → Bool) (xs : List X) → each t xs ≡ true → All (λ x. t x ≡ true) xs
+pub each_all : {X : Type 0} (t : X → Bool) (xs : List X) → each t xs ≡ true → AllByRecursion (λ x. t x ≡ true) xs
 each_all t [] h = tt
 each_all t (x ∷ xs) h = let p = and_parts (t x) (each t xs) h in (p.0, each_all t xs p.1)
 
-pub all_each : {X : Type 0} (t : X → Bool) (xs : List X) → All (λ x. t x ≡ true) xs → each t xs ≡ true
+pub all_each : {X : Type 0} (t : X → Bool) (xs : List X) → AllByRecursion (λ x. t x ≡ true) xs → each t xs ≡ true
 all_each t [] h = refl
 all_each t (x ∷ xs) h = and_from _ _ h.0 (all_each t xs h.1)
 
@@ -72,9 +72,9 @@ module _ {B : Type 0} (k : Kind B) where
       let lt : k.number_of b < k.number_of x = omega arith in
       and_from _ _ (lt-ltb _ _ l) (and_from _ _ (lt-ltb _ _ lt) p.1))
 
-  pub all_entered : (P : B → Type 0) (b : B) (xs : List B) → P b → All P xs → All P (entered k b xs)
+  pub all_entered : (P : B → Type 0) (b : B) (xs : List B) → P b → AllByRecursion P xs → AllByRecursion P (entered k b xs)
   all_entered P b [] h a = (h, tt)
-  all_entered P b (x ∷ xs) h a = cond_both (ltb (k.number_of x) (k.number_of b)) (x ∷ entered k b xs) (b ∷ x ∷ xs) (All P) (λ e. (a.0, all_entered P b xs h a.1)) (λ e. (h, a))
+  all_entered P b (x ∷ xs) h a = cond_both (ltb (k.number_of x) (k.number_of b)) (x ∷ entered k b xs) (b ∷ x ∷ xs) (AllByRecursion P) (λ e. (a.0, all_entered P b xs h a.1)) (λ e. (h, a))
 
   pub tally_entered : (p : ℕ) (b : B) (xs : List B) → tally k p (entered k b xs) ≡ cond (eqb (k.participant_of b) p) 1 0 + tally k p xs
   tally_entered p b [] = refl
@@ -95,9 +95,9 @@ module _ {B : Type 0} (k : Kind B) where
       let l = ltb-true n (k.number_of x) p.0 in
       cond_both (eqb (k.number_of x) m) xs (x ∷ without k m xs) (λ ys. rising k n ys ≡ true) (λ e. rising_lower (k.number_of x) n xs (omega arith) p.1) (λ e. and_from _ _ p.0 (rising_without m (k.number_of x) xs p.1))
 
-  pub all_without : (P : B → Type 0) (m : ℕ) (xs : List B) → All P xs → All P (without k m xs)
+  pub all_without : (P : B → Type 0) (m : ℕ) (xs : List B) → AllByRecursion P xs → AllByRecursion P (without k m xs)
   all_without P m [] a = tt
-  all_without P m (x ∷ xs) a = cond_both (eqb (k.number_of x) m) xs (x ∷ without k m xs) (All P) (λ e. a.1) (λ e. (a.0, all_without P m xs a.1))
+  all_without P m (x ∷ xs) a = cond_both (eqb (k.number_of x) m) xs (x ∷ without k m xs) (AllByRecursion P) (λ e. a.1) (λ e. (a.0, all_without P m xs a.1))
 
   pub tally_without : (p m : ℕ) (xs : List B) → tally k p (without k m xs) ≤ tally k p xs
   tally_without p m [] = omega arith

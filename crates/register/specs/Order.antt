@@ -1,6 +1,6 @@
 -- Bids of a register, as a list.
 use Rattle.std.specs.Prelude.{◌≡◌, ℕ, ◌+◌, ◌<◌, ◌≤◌, Bool, true, false, cond, ◌&&◌, ◌||◌, List, [], ◌∷◌, length, Some, None, Ok, Err, Option, Result, ◌==◌, nat_le, nat_lt, slice_index_or}
-use Rattle.std.specs.List.{AllByRecursion as All}
+use Rattle.std.specs.List.{AllByRecursion}
 use Rattle.bids.specs.Kinds.{Kind}
 
 -- t is true of each
@@ -54,7 +54,7 @@ module _ {B : Type 0} (k : Kind B) where
   -- the same in words
   pub record Ordered (xs : List B) : Type 0 where
     pub rises : rising 0 xs ≡ true
-    pub knows : All (λ x. known x ≡ true) xs
+    pub knows : AllByRecursion (λ x. known x ≡ true) xs
     pub few_each : (p : ℕ) → tally p xs ≤ k.most_standing
 
   -- the place of the number n among bids: where it stands, or where it would
