@@ -17,7 +17,7 @@ use Rattle.register.specs.Order.{each, known, rising, ordered, standing_as}
 use Rattle.register.specs.Hours.{in_hour, hour_taken, apart, hour_right, hours_kept}
 use Rattle.register.specs.Families.{rank, level_count, parent_fits, parent_kept, family_fits, families_kept}
 use Rattle.register.specs.Lawful.{Tables, hourly_kept, block_alone, blocks_kept, flexible_alone, flexible_kept, register_rules}
-use Rattle.register.specs.Words.{OfEach, OfTwo, InOrder, Lawful-hourly, ParentOf, LawfulBlocks, LawfulFlexible, LawfulRegisters}
+use Rattle.register.specs.Words.{OfEach, OfTwo, InOrder, LawfulHourly, ParentOf, LawfulBlocks, LawfulFlexible, LawfulRegisters}
 use Rattle.register.specs.declared.families.Rank.{Rank}
 use Rattle.register.specs.declared.lawful.Counts.{Counts}
 use Rattle.register.proofs.Steps.{apart as rising_apart}
@@ -115,13 +115,13 @@ module _ {C : Type 0} where
       and_from _ _ (not_from_false _ (not_taken_from x.participant x.hour xs (λ i d l e. other_hour x d (g 0 (suc i) x d (omega arith) (omega arith) refl e))))
       (apart_from xs (λ i j b d l m e f. g (suc i) (suc j) b d (omega arith) (omega arith) e f))
 
-  pub hourly_means : (xs : List (HourlyBid C)) → hourly_kept xs ≡ true → Lawful-hourly xs
+  pub hourly_means : (xs : List (HourlyBid C)) → hourly_kept xs ≡ true → LawfulHourly xs
   hourly_means xs h =
       let p = and_parts (ordered hourly xs) (hours_kept xs) h in
       let q = and_parts (each hour_right xs) (apart xs) p.1 in
       record { in_order = in_order_means hourly xs p.0; hours = λ i b l e. leb-true _ _ (each_at hour_right xs i b q.0 l e); apart_each = apart_means xs q.1 }
 
-  pub hourly_from : (xs : List (HourlyBid C)) → Lawful-hourly xs → hourly_kept xs ≡ true
+  pub hourly_from : (xs : List (HourlyBid C)) → LawfulHourly xs → hourly_kept xs ≡ true
   hourly_from xs w = and_from _ _ (in_order_from hourly xs w.in_order) (and_from _ _ (places_each hour_right xs (λ i b l e. le-leb _ _ (w.hours i b l e))) (apart_from xs w.apart_each))
 
 -- ---- the form of a bid

@@ -33,7 +33,7 @@ pub record InOrder {B : Type 0} (k : Kind B) (xs : List B) : Type 0 where
   pub few_each : (p : ℕ) → tally k p xs ≤ k.most_standing
 
 -- a lawful register of hourly bids: in order, each in an hour of the day, and no two of one participant in one hour
-pub record Lawful-hourly {C : Type 0} (xs : List (HourlyBid C)) : Type 0 where
+pub record LawfulHourly {C : Type 0} (xs : List (HourlyBid C)) : Type 0 where
   pub in_order : InOrder hourly xs
   pub hours : OfEach xs (λ b. b.hour ≤ 23)
   pub apart_each : OfTwo xs (λ b d. b.participant ≡ d.participant → b.hour ≢ d.hour)
@@ -61,7 +61,7 @@ pub record LawfulFlexible (limits : Limits) (xs : List FlexibleBid) : Type 0 whe
 -- the three registers are lawful: each table has at least as many places as bids are counted, and the bids in its first places are a lawful register
 pub record LawfulRegisters {C : Type 0} (limits : Limits) (n : Counts) (t : Tables C) : Type 0 where
   pub hourly_places : n.hourly ≤ length t.hourly
-  pub hourly_bids : Lawful-hourly (take n.hourly t.hourly)
+  pub hourly_bids : LawfulHourly (take n.hourly t.hourly)
   pub block_places : n.blocks ≤ length t.blocks
   pub block_bids : LawfulBlocks limits (take n.blocks t.blocks)
   pub flexible_places : n.flexible ≤ length t.flexible
