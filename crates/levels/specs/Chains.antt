@@ -11,11 +11,13 @@ use Rattle.levels.specs.Search.{around_from, around, largest}
 use Rattle.levels.specs.Fronts.{Formed}
 
 -- ---- the tests of the form, by their parts
+-- the price and the quantity of a level within their bounds
 pub record Bounds (a : Level) : Type 0 where
   pub price_to : a.price ≤ 10000000
   pub quantity_from : negsuc 99999 ≤ℤ a.quantity
   pub quantity_to : a.quantity ≤ℤ pos 100000
 
+-- a level that passes the test of its bounds is within them
 pub bounds : (a : Level) → bounded a ≡ true → Bounds a
 bounds a h =
     let p = and_parts _ _ h in
@@ -23,11 +25,13 @@ bounds a h =
     let u = (and_parts (int_le (negsuc 99999) a.quantity) (int_le a.quantity (pos 100000)) p.1).1 in
     record { price_to = leb-true _ _ p.0; quantity_from = omega (arith, ints); quantity_to = omega (arith, ints) }
 
+-- the level b may follow the level a: it is within its bounds, its price is higher, its quantity no higher
 pub record Next (a b : Level) : Type 0 where
   pub next_bounded : bounded b ≡ true
   pub rises : a.price < b.price
   pub quantity_falls : b.quantity ≤ℤ a.quantity
 
+-- a level that passes the test of following may follow
 pub next : (a b : Level) → follows a b ≡ true → Next a b
 next a b h =
     let p = and_parts _ _ h in
@@ -36,10 +40,12 @@ next a b h =
     record { next_bounded = p.0; rises = ltb-true _ _ r; quantity_falls = omega (arith, ints) }
 
 -- ---- the neighbours of a price among levels that keep the form
+-- the level after a, where there is one, may follow it and is priced above p
 abbrev pub NextIs : Level → Option Level → ℕ → Type 0
 NextIs a None p = Unit {0}
 NextIs a (Some b) p = (follows a b ≡ true) × (p < b.price)
 
+-- the neighbours of the price p: a level within its bounds, and the one after it priced above p
 pub record Neighbouring (n : Neighbours) (p : ℕ) : Type 0 where
   pub at_bounded : bounded n.at ≡ true
   pub next_is : NextIs n.at n.next p
@@ -54,24 +60,29 @@ neighbouring_from a (c ∷ ls) p b f =
     by parts rest true e = record { at_bounded = b; next_is = (parts.0, ltb-true _ _ e) }
     by parts rest false e = rest
 
+-- among levels that keep the form every price has such neighbours
 pub neighbouring : (ls : List Level) (p : ℕ) → Formed ls → Neighbouring (around ls p) p
 neighbouring [] p h = absurd (omega (arith, h.some))
 neighbouring (a ∷ ls) p h = let f = and_parts _ _ h.keeps in neighbouring_from a ls p f.0 f.1
 
 -- ---- the size of a number
+-- a number is at least minus its size
 pub abs_from : (z : ℤ) → neg_ℤ (pos (unsigned_abs z)) ≤ℤ z
 abs_from (pos n) = omega (arith, ints)
 abs_from (negsuc n) = omega (arith, ints)
 
+-- a number is at most its size
 pub abs_to : (z : ℤ) → z ≤ℤ pos (unsigned_abs z)
 abs_to (pos n) = omega (arith, ints)
 abs_to (negsuc n) = omega (arith, ints)
 
+-- a number between minus m and m has at most the size m
 pub abs_within : (z : ℤ) (m : ℕ) → neg_ℤ (pos m) ≤ℤ z → z ≤ℤ pos m → unsigned_abs z ≤ m
 abs_within (pos n) m l u = omega (arith, ints)
 abs_within (negsuc n) m l u = omega (arith, ints)
 
 -- ---- a rule that gives the quantity by a price's neighbours, from level to level
+-- a rule by the level at a price and the one after it: it ends in the last level, stays between the two levels, and never rises
 pub record Rule (f : Level → Option Level → ℕ → ℤ) : Type 0 where
   pub at_end : (a : Level) (p : ℕ) → f a None p ≡ a.quantity
   pub not_over : (a b : Level) (p : ℕ) → bounded a ≡ true → follows a b ≡ true → f a (Some b) p ≤ℤ a.quantity
@@ -79,18 +90,23 @@ pub record Rule (f : Level → Option Level → ℕ → ℤ) : Type 0 where
   pub falls : (a b : Level) (p r : ℕ) → bounded a ≡ true → follows a b ≡ true → p ≤ r → f a (Some b) r ≤ℤ f a (Some b) p
 
 module _ (f : Level → Option Level → ℕ → ℤ) (rule : Rule f) where
+  -- the quantity at p among the level a and those after it
   abbrev pub along_from : Level → List Level → ℕ → ℤ
   along_from a ls p = f (around_from a ls p).at (around_from a ls p).next p
 
+  -- the quantity at p among levels
   abbrev pub along : List Level → ℕ → ℤ
   along ls p = f (around ls p).at (around ls p).next p
 
+  -- before the price of the second level the first two levels decide
   pub here : (a b : Level) (ls : List Level) (p : ℕ) → p < b.price → along_from a (b ∷ ls) p ≡ f a (Some b) p
   here a b ls p h = ap (λ n. f n.at n.next p) (cond-true (nat_lt p b.price) (record { at = a; next = Some b }) (around_from b ls p) (lt-ltb _ _ h))
 
+  -- from the price of the second level on the first level does not matter
   pub there : (a b : Level) (ls : List Level) (p : ℕ) → b.price ≤ p → along_from a (b ∷ ls) p ≡ along_from b ls p
   there a b ls p h = ap (λ n. f n.at n.next p) (cond-false (nat_lt p b.price) (record { at = a; next = Some b }) (around_from b ls p) (le-ltb _ _ h))
 
+  -- no quantity is above the first level's
   pub along_top : (a : Level) (ls : List Level) (p : ℕ) → bounded a ≡ true → formed_after a ls ≡ true → along_from a ls p ≤ℤ a.quantity
   along_top a [] p k h = let e = rule.at_end a p in omega (arith, ints)
   along_top a (b ∷ ls) p k h =
@@ -138,6 +154,7 @@ module _ (f : Level → Option Level → ℕ → ℤ) (rule : Rule f) where
       let rest = largest_after b ls n.next_bounded parts.1 in
       omega arith
 
+  -- levels that keep the form, with a rule, give a curve that keeps the laws of curves, whose reach is the largest size of a quantity
   pub along_laws : (ls : List Level) → Formed ls → CurveLaws (λ p. along ls (min p 10000000)) (largest ls)
   along_laws [] h = absurd (omega (arith, h.some))
   along_laws (a ∷ ls) h =

@@ -16,6 +16,7 @@ constant_laws q h = record {
   reach_within = h;
 }
 
+-- a flat curve of any content keeps the laws of curves
 pub flat_laws : (z : ℤ) → CurveLaws (λ p. flat_quantity z) (flat_reach z)
 flat_laws z = by (in_bounds z) refl
   where

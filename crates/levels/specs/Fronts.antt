@@ -30,6 +30,7 @@ front_after_is a (b ∷ ls) = by (front_after_is b ls) (follows a b) refl
         }
     by rest false e = record { within = omega arith; keeps = refl; breaks = λ h. and_left _ _ e; taken = rw e refl }
 
+-- the front that is kept is the longest that keeps the form
 pub front_longest : (ls : List Level) → LongestFront ls (length (kept_front ls))
 front_longest [] = record { within = omega arith; keeps = refl; breaks = λ h. absurd (omega arith) }
 front_longest (a ∷ ls) = by (bounded a) refl
@@ -46,6 +47,7 @@ front_longest (a ∷ ls) = by (bounded a) refl
         }
     by false e = record { within = omega arith; keeps = refl; breaks = λ h. and_left _ _ e }
 
+-- the front that is kept is made of the first levels
 pub front_takes : (ls : List Level) → take (length (kept_front ls)) ls ≡ kept_front ls
 front_takes [] = refl
 front_takes (a ∷ ls) = by (bounded a) refl
@@ -59,14 +61,17 @@ kept_after : (a : Level) (ls : List Level) → formed_after a ls ≡ true → fr
 kept_after a [] h = refl
 kept_after a (b ∷ ls) h = let p = and_parts _ _ h in cond-true _ _ _ p.0 ∙ ap (λ ys. b ∷ ys) (kept_after b ls p.1)
 
+-- levels that keep the form are kept whole
 pub kept_whole : (ls : List Level) → formed ls ≡ true → kept_front ls ≡ ls
 kept_whole [] h = refl
 kept_whole (a ∷ ls) h = let p = and_parts _ _ h in cond-true _ _ _ p.0 ∙ ap (λ ys. a ∷ ys) (kept_after a ls p.1)
 
+-- the front that is kept keeps the form
 pub kept_formed : (ls : List Level) → formed (kept_front ls) ≡ true
 kept_formed ls = subst (λ ys. formed ys ≡ true) (front_takes ls) (front_longest ls).keeps
 
 -- ---- the levels in force
+-- where the front is empty the level (0: 0) is in force
 pub force_none : (t : LevelTable) (k : ℕ) → k ≡ length (kept_front (take (min t.count 64) t.levels)) → k ≡ 0 → zero_level ∷ [] ≡ in_force_of t
 unfolding in_force_of
 force_none t k e z = by (kept_front (take (min t.count 64) t.levels)) (sym e ∙ z)
@@ -75,6 +80,7 @@ force_none t k e z = by (kept_front (take (min t.count 64) t.levels)) (sym e ∙
     by [] h = refl
     by (y ∷ ys) h = absurd (omega arith)
 
+-- where the front is not empty it is in force
 pub force_some : (t : LevelTable) (k : ℕ) → k ≡ length (kept_front (take (min t.count 64) t.levels)) → (k ≢ 0) → take k t.levels ≡ in_force_of t
 unfolding in_force_of
 force_some t k e nz =
@@ -103,6 +109,7 @@ pub record Formed (ls : List Level) : Type 0 where
   pub some : 0 < length ls
   pub keeps : formed ls ≡ true
 
+-- the levels in force of any content are some and keep the form
 pub force_formed : (t : LevelTable) → Formed (in_force_of t)
 unfolding in_force_of
 force_formed t = by (kept_front (take (min t.count 64) t.levels)) (kept_formed (take (min t.count 64) t.levels))

@@ -12,12 +12,14 @@ use Rattle.levels.specs.Lines.{span, scaled, nearest, Nearest, between, on_line}
 use Rattle.levels.specs.Chains.{next, bounds, Rule}
 
 -- ---- products of whole numbers
+-- a product with a sum is the sum of the products
 pub times_add : (p : ℕ) (a b : ℤ) → pos p *ℤ (a +ℤ b) ≡ pos p *ℤ a +ℤ pos p *ℤ b
 times_add p a b =
     let e : up (a +ℤ b) + (down a + down b) ≡ down (a +ℤ b) + (up a + up b) = omega (arith, ints) in
     let f = simp mul-add at (ap (λ x. p * x) e) in
     omega (arith, ints)
 
+-- a product with a number below 0 is below 0
 pub neg_times : (d t : ℕ) → neg_ℤ (pos d) *ℤ pos t ≡ neg_ℤ (pos (d * t))
 neg_times zero t = let e = zero-mul t in omega (arith, ints)
 neg_times (suc d) t = omega (arith, ints)
@@ -26,11 +28,13 @@ times_neg : (p k : ℕ) → pos p *ℤ neg_ℤ (pos k) ≡ neg_ℤ (pos (p * k))
 times_neg p zero = let e = mul-zero p in omega (arith, ints)
 times_neg p (suc k) = omega (arith, ints)
 
+-- twice a product is the product with twice the number
 pub twice : (z : ℤ) (s : ℕ) → pos 2 *ℤ (z *ℤ pos s) ≡ pos (2 * s) *ℤ z
 twice (pos n) s = let e = mul_comm n s in let f = mul_assoc 2 s n in omega (arith, ints)
 twice (negsuc n) s = let e = mul_comm (suc n) s in let f = mul_assoc 2 s (suc n) in omega (arith, ints)
 
 -- ---- floor division
+-- a quotient is known by its remainder
 pub div_at : (z : ℤ) (n : ℕ) (d : ℤ) (r : ℕ) → r < n → z ≡ pos n *ℤ d +ℤ pos r → int_div_euclid z (pos n) ≡ d
 div_at z n (pos k) r h e =
     let c = mul_comm n k in
@@ -43,11 +47,13 @@ div_at z n (negsuc k) r h e =
     let f : z ≡ negsuc (k * n + (n - 1 - r)) = omega (arith, ints) in
     ap (λ x. int_div_euclid x (pos n)) f ∙ ap negsuc (div-mul-add k n (n - 1 - r) (omega arith))
 
+-- a quotient with its remainder
 pub record Divided (z : ℤ) (n : ℕ) : Type 0 where
   pub rest : ℕ
   pub below : rest < n
   pub value : z ≡ pos n *ℤ int_div_euclid z (pos n) +ℤ pos rest
 
+-- floor division leaves a remainder from 0 on and below the divisor
 pub divided : (z : ℤ) (n : ℕ) → 0 < n → Divided z n
 divided (pos a) n h =
     let e = div-add-mod' a n in
@@ -60,6 +66,7 @@ divided (negsuc a) n h =
     let b = mod_below a n h in
     record { rest = n - 1 - a % n; below = omega arith; value = omega (arith, ints) }
 
+-- the number computed is the whole number nearest to the quotient, halves upward
 pub is_nearest : (n : ℤ) (s : ℕ) → 0 < s → Nearest n s (nearest n s)
 is_nearest n s h =
     let d = divided (pos 2 *ℤ n +ℤ pos s) (2 * s) (omega arith) in
@@ -71,9 +78,11 @@ is_nearest n s h =
 abbrev pub fallen : ℕ → ℕ → ℕ → ℕ
 fallen d t s = (2 * (d * t) + (s - 1)) / (2 * s)
 
+-- how far the quantity falls from the level a to the level b
 abbrev pub gap : Level → Level → ℕ
 gap a b = up (a.quantity -ℤ b.quantity)
 
+-- where the quantity does not rise, the difference is minus that fall
 pub gap_is : (a b : Level) → b.quantity ≤ℤ a.quantity → b.quantity -ℤ a.quantity ≡ neg_ℤ (pos (gap a b))
 gap_is a b h = let s = sides (a.quantity -ℤ b.quantity) in omega (arith, ints)
 
@@ -92,6 +101,7 @@ nearest_is q s d t h =
     div_at (pos 2 *ℤ (q *ℤ pos s +ℤ neg_ℤ (pos (d * t))) +ℤ pos s) (2 * s) (q -ℤ pos (x / (2 * s))) (2 * s - 1 - x % (2 * s)) (omega arith)
     (rw minus (omega (arith, ints)))
 
+-- between two levels the line is the first quantity less what it has fallen
 pub between_is : (a b : Level) (p : ℕ) → follows a b ≡ true → between a b p ≡ a.quantity -ℤ pos (fallen (gap a b) (p - a.price) (span a b))
 between_is a b p f =
     let n = next a b f in
@@ -116,6 +126,7 @@ fallen_rises d t u s h l =
     let e = div-add-mod' (2 * (d * t) + (s - 1)) (2 * s) in
     le-div (fallen d t s) (2 * (d * u) + (s - 1)) (2 * s) (omega arith) (omega arith)
 
+-- the straight line from level to level is a rule
 pub line_rule : Rule on_line
 line_rule = record {
   at_end = λ a p. refl;
@@ -137,6 +148,7 @@ line_rule = record {
 }
 
 -- ---- the sums and products of the line fit
+-- a number between minus m and m
 pub record Within (m : ℕ) (z : ℤ) : Type 0 where
   pub low : neg_ℤ (pos m) ≤ℤ z
   pub high : z ≤ℤ pos m
@@ -145,6 +157,7 @@ product_within : (m : ℕ) (z : ℤ) (s : ℕ) → Within m z → s ≤ 10000000
 product_within m (pos n) s h l = let k = mul-le n s m 10000000 (omega (arith, ints, h.high)) l in record { low = omega (arith, ints); high = omega (arith, ints) }
 product_within m (negsuc n) s h l = let k = mul-le (suc n) s m 10000000 (omega (arith, ints, h.low)) l in record { low = omega (arith, ints); high = omega (arith, ints) }
 
+-- what the sums and products of the line between two levels stay within
 pub record Line (a b : Level) (p : ℕ) : Type 0 where
   pub from_within : Within 100000 a.quantity
   pub to_within : Within 100000 b.quantity
@@ -155,6 +168,7 @@ pub record Line (a b : Level) (p : ℕ) : Type 0 where
   pub not_over : between a b p ≤ℤ a.quantity
   pub not_under : b.quantity ≤ℤ between a b p
 
+-- at a price below the second level they stay within that
 pub line : (a b : Level) (p : ℕ) → bounded a ≡ true → follows a b ≡ true → p < b.price → Line a b p
 line a b p k f l =
     let n = next a b f in

@@ -5,9 +5,11 @@ use Rattle.std.proofs.lemmas.Int.{ints}
 use Rattle.levels.specs.declared.level.Level.{Level}
 use Rattle.levels.specs.Chains.{next, Rule}
 
+-- a step stays at the quantity of the level at the price
 abbrev pub on_step : Level → Option Level → ℕ → ℤ
 on_step a n p = a.quantity
 
+-- steps from level to level are a rule
 pub step_rule : Rule on_step
 step_rule = record {
   at_end = λ a p. refl;

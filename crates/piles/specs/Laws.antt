@@ -16,6 +16,7 @@ capped_from b s r z h = omega (arith, ints, clamps)
 capped_to : (b s r : ℕ) (z : ℤ) → z ≤ℤ pos r → capped b s z ≤ℤ pos (cap_reach b s r)
 capped_to b s r z h = omega (arith, ints, clamps)
 
+-- a cap over a curve that keeps the laws keeps them
 pub capped_laws : (q : ℕ → ℤ) (b s r : ℕ) → CurveLaws q r → CurveLaws (λ p. capped b s (q p)) (cap_reach b s r)
 capped_laws q b s r h = record {
   never_rises = λ p t l. capped_le b s (q t) (q p) (h.never_rises p t l);
@@ -35,6 +36,7 @@ added_from a b x y = omega (arith, ints, clamps)
 added_to : (a b : ℕ) (x y : ℤ) → added a b x y ≤ℤ pos (sum_reach a b)
 added_to a b x y = omega (arith, ints, clamps)
 
+-- the sum of two curves that keep the laws keeps them
 pub added_laws : (q t : ℕ → ℤ) (a b : ℕ) → CurveLaws q a → CurveLaws t b → CurveLaws (λ p. added a b (q p) (t p)) (sum_reach a b)
 added_laws q t a b h k = record {
   never_rises = λ p u l. added_le a b (q u) (t u) (q p) (t p) (h.never_rises p u l) (k.never_rises p u l);
