@@ -6,28 +6,28 @@ use Rattle.curve.proofs.Margins.{greatest_in_margin}
 use Rattle.curve.proofs.gains.surplus.Given as given
 use Rattle.curve.proofs.gains.surplus.Goals as goal
 
-price-is : (g : given.Over) (c : goal.After-min g) → to_z w64 c.min.result ≡ pos (min c.args.price 10000000)
-price-is g c = omega (arith, ints)
+price_is : (g : given.Over) (c : goal.After-min g) → to_z w64 c.min.result ≡ pos (min c.args.price 10000000)
+price_is g c = omega (arith, ints)
 
-matched-is : (g : given.Over) (c : goal.After-min g) → to_z w64 (of_z w64 (to_z w32 (of_z w32 c.args.matched))) ≡ c.args.matched
-matched-is g c = omega (arith, ints)
+matched_is : (g : given.Over) (c : goal.After-min g) → to_z w64 (of_z w64 (to_z w32 (of_z w32 c.args.matched))) ≡ c.args.matched
+matched_is g c = omega (arith, ints)
 
-cost-is : (g : given.Over) (c : goal.After-min g) → to_z w64 c.min.result *ℤ to_z w64 (of_z w64 (to_z w32 (of_z w32 c.args.matched))) ≡ pos (min c.args.price 10000000) *ℤ c.args.matched
-cost-is g c = ap (λ x. x *ℤ to_z w64 (of_z w64 (to_z w32 (of_z w32 c.args.matched)))) (price-is g c) ∙ ap (λ x. pos (min c.args.price 10000000) *ℤ x) (matched-is g c)
+cost_is : (g : given.Over) (c : goal.After-min g) → to_z w64 c.min.result *ℤ to_z w64 (of_z w64 (to_z w32 (of_z w32 c.args.matched))) ≡ pos (min c.args.price 10000000) *ℤ c.args.matched
+cost_is g c = ap (λ x. x *ℤ to_z w64 (of_z w64 (to_z w32 (of_z w32 c.args.matched)))) (price_is g c) ∙ ap (λ x. pos (min c.args.price 10000000) *ℤ x) (matched_is g c)
 
 small : (g : given.Over) (c : goal.After-min g) → Small (pos (min c.args.price 10000000) *ℤ c.args.matched)
 small g c = cost_small (min c.args.price 10000000) c.args.matched (omega arith) c.ranges.matched
 
 pub overflow_mul-result : goal.overflow_mul-result
-overflow_mul-result g c = let e = cost-is g c in let s = small g c in omega (arith, ints)
+overflow_mul-result g c = let e = cost_is g c in let s = small g c in omega (arith, ints)
 
 pub overflow_sub-result : goal.overflow_sub-result
-overflow_sub-result g c = let e = cost-is g c in let s = small g c in let b = c.gain.ensures in omega (arith, ints)
+overflow_sub-result g c = let e = cost_is g c in let s = small g c in let b = c.gain.ensures in omega (arith, ints)
 
 pub returns : goal.returns
 returns g c =
     let q = g.C.PriceCurve.meaning c.args.curve.now in
-    let e = cost-is g c in
+    let e = cost_is g c in
     let s = small g c in
     let b = c.gain.ensures in
     let cost = pos (min c.args.price 10000000) *ℤ c.args.matched in

@@ -25,18 +25,18 @@ part_is q r t u h k same l =
 sum_is : (x y u v : ℤ) → x ≡ u → y ≡ v → Within 1000000000000 u → Within 2000000000000 v → to_z w64 (of_z w64 (to_z w64 (of_z w64 x) +ℤ to_z w64 (of_z w64 y))) ≡ u +ℤ v
 sum_is x y u v e f h k = omega (arith, ints, h.low, h.high, k.low, k.high)
 
-scaled-is : (a b : Level) (p t : ℕ) → Line a b p → t ≡ p - a.price → p < 4294967296 →
+scaled_is : (a b : Level) (p t : ℕ) → Line a b p → t ≡ p - a.price → p < 4294967296 →
     to_z w64 (of_z w64 (to_z w64 (of_z w64 (to_z w64 (of_z w64 (to_z w32 (of_z w32 a.quantity))) *ℤ to_z w64 (b.price - a.price)))
     +ℤ to_z w64 (of_z w64 (to_z w64 (of_z w64 (to_z w64 (of_z w64 (to_z w32 (of_z w32 b.quantity))) -ℤ to_z w64 (of_z w64 (to_z w32 (of_z w32 a.quantity))))) *ℤ to_z w64 t))))
     ≡ scaled a b p
-scaled-is a b p t l same fits =
+scaled_is a b p t l same fits =
     sum_is _ _ (a.quantity *ℤ pos (span a b)) ((b.quantity -ℤ a.quantity) *ℤ pos (p - a.price))
     (whole_is a.quantity (span a b) l.from_within (omega (arith, l.short)))
     (part_is a.quantity b.quantity t (p - a.price) l.from_within l.to_within same (omega arith))
     l.whole l.part
 
-scaled-moderate : (a b : Level) (p : ℕ) → Line a b p → Moderate (scaled a b p)
-scaled-moderate a b p l = record { low = omega (arith, ints, l.whole.low, l.whole.high, l.part.low, l.part.high); high = omega (arith, ints, l.whole.low, l.whole.high, l.part.low, l.part.high) }
+scaled_moderate : (a b : Level) (p : ℕ) → Line a b p → Moderate (scaled a b p)
+scaled_moderate a b p l = record { low = omega (arith, ints, l.whole.low, l.whole.high, l.part.low, l.part.high); high = omega (arith, ints, l.whole.low, l.whole.high, l.part.low, l.part.high) }
 
 pub overflow_mul-scaled : goal.overflow_mul-scaled
 overflow_mul-scaled c =
@@ -62,15 +62,15 @@ nearest-requires c =
     let a = c.args.from in
     let b = c.args.to in
     let l = line a b c.args.price c.requires.0 c.requires.1.0 c.requires.1.1 in
-    let e = scaled-is a b c.args.price c.saturating_sub-past.result l c.saturating_sub-past.ensures (omega arith) in
-    (omega (arith, l.rises), subst Moderate (sym e) (scaled-moderate a b c.args.price l))
+    let e = scaled_is a b c.args.price c.saturating_sub-past.result l c.saturating_sub-past.ensures (omega arith) in
+    (omega (arith, l.rises), subst Moderate (sym e) (scaled_moderate a b c.args.price l))
 
 pub overflow_cast-result : goal.overflow_cast-result
 overflow_cast-result c =
     let a = c.args.from in
     let b = c.args.to in
     let l = line a b c.args.price c.requires.0 c.requires.1.0 c.requires.1.1 in
-    let e = scaled-is a b c.args.price c.saturating_sub-past.result l c.saturating_sub-past.ensures (omega arith) in
+    let e = scaled_is a b c.args.price c.saturating_sub-past.result l c.saturating_sub-past.ensures (omega arith) in
     let value : c.nearest.result ≡ between a b c.args.price = c.nearest.ensures.value ∙ ap (λ x. nearest x (span a b)) e in
     omega (arith, ints, l.not_over, l.not_under, l.from_within.low, l.from_within.high, l.to_within.low, l.to_within.high)
 
@@ -79,7 +79,7 @@ returns c =
     let a = c.args.from in
     let b = c.args.to in
     let l = line a b c.args.price c.requires.0 c.requires.1.0 c.requires.1.1 in
-    let e = scaled-is a b c.args.price c.saturating_sub-past.result l c.saturating_sub-past.ensures (omega arith) in
+    let e = scaled_is a b c.args.price c.saturating_sub-past.result l c.saturating_sub-past.ensures (omega arith) in
     let value : c.nearest.result ≡ between a b c.args.price = c.nearest.ensures.value ∙ ap (λ x. nearest x (span a b)) e in
     let fits : to_z w32 (of_z w32 (to_z w64 (of_z w64 c.nearest.result))) ≡ c.nearest.result = omega (arith, ints, l.not_over, l.not_under, l.from_within.low, l.from_within.high, l.to_within.low, l.to_within.high) in
     fits ∙ value
