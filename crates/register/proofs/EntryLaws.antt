@@ -1,5 +1,5 @@
 -- Bids that may be entered or withdrawn leave lawful registers.
-use Rattle.std.proofs.Common.{◌≡◌, ℕ, ◌<◌, min, Bool, true, false, not, ◌&&◌, ◌||◌, ltb, leb, List, [], ◌∷◌, ◌++◌, length, is_some, None, Ok, Err, Option, refl, ap, arith}
+use Rattle.std.proofs.Common.{◌≡◌, ℕ, ◌<◌, min, Bool, true, false, not, ◌&&◌, ◌||◌, ltb, leb, List, [], ◌∷◌, ◌++◌, length, is_some, None, Ok, Option, refl, ap, arith}
 use Rattle.std.proofs.lemmas.Bool.{and_parts, and_from, or_parts, leb-false, ltb-false, le-leb, not-false}
 use Rattle.market.specs.Prices.{within}
 use Rattle.market.specs.declared.limits.Limits.{Limits}
@@ -8,7 +8,7 @@ use Rattle.market.specs.declared.refusals.Rule.{Rule}
 use Rattle.market.specs.declared.refusals.Rule.TheVariants as rules
 use Rattle.bids.specs.Kinds.{Kind}
 use Rattle.bids.specs.Registers.{hourly, block, flexible}
-use Rattle.bids.specs.Checks.{Answer, broken, first_of}
+use Rattle.bids.specs.Checks.{broken, first_of}
 use Rattle.bids.specs.Blocks.{block_form}
 use Rattle.bids.specs.Flexibles.{flexible_form}
 use Rattle.bids.specs.declared.rows.HourlyBid.{HourlyBid}
@@ -24,12 +24,9 @@ use Rattle.register.proofs.Laws.{each_all, all_each, all_entered, all_without, o
 use Rattle.register.proofs.HourLaws.{hours_entered, hours_without}
 use Rattle.register.proofs.FamilyLaws.{families_entered, families_without}
 
-refused_not_done : {X : Type 0} (e : Refusal) → ◌≡◌ {A = Answer} (Err e) (Ok tt) → X
-refused_not_done e h = let z : ◌≡◌ {A = ℕ} 0 1 = cc in absurd (omega arith)
-
 -- a call goes on only where its first rule is not broken
 pub unbroken : (t : Bool) (r : Rule) (p : ℕ) (rest : List (Option Refusal)) → first_of (broken t r p ∷ rest) ≡ Ok tt → (t ≡ false) × (first_of rest ≡ Ok tt)
-unbroken true r p rest h = refused_not_done _ h
+unbroken true r p rest h = absurd cc
 unbroken false r p rest h = (refl, h)
 
 module _ {B : Type 0} (k : Kind B) where

@@ -140,7 +140,8 @@ families_means xs h =
 pub families_from : (xs : List BlockBid) → Families xs → families_kept xs ≡ true
 families_from xs f = and_from _ _ (all_each (parent_kept xs) xs f.parents) (kept_each xs f.fits xs (all_each (ranked xs) xs f.ranks))
 
-fits_first : (xs : List BlockBid) (h : ℕ) → family_fits xs h ≡ true → (level_count xs 1 h xs ≤ 3) × (level_count xs 2 h xs ≤ 3) × (level_count xs 1 h xs + level_count xs 2 h xs ≤ 5)
+-- a family that fits has at most three blocks on each lower level and at most six in all
+pub fits_first : (xs : List BlockBid) (h : ℕ) → family_fits xs h ≡ true → (level_count xs 1 h xs ≤ 3) × (level_count xs 2 h xs ≤ 3) × (level_count xs 1 h xs + level_count xs 2 h xs ≤ 5)
 fits_first xs h e =
     let p = and_parts (leb (level_count xs 1 h xs) 3) _ e in
     let q = and_parts (leb (level_count xs 2 h xs) 3) (leb (level_count xs 1 h xs + level_count xs 2 h xs) 5) p.1 in

@@ -106,10 +106,7 @@ module _ {B : Type 0} (k : Kind B) where
       cond_both (eqb (k.number_of x) m) xs (x ∷ without k m xs) (λ ys. tally k p ys ≤ tally k p (x ∷ xs)) (λ e. omega arith) (λ e. omega (arith, r))
 
   pub length_without : (m : ℕ) (xs : List B) → stands k m xs ≡ true → length (without k m xs) + 1 ≡ length xs
-  length_without m [] s = absurd (false_true s)
-    where
-      false_true : false ≡ true → ⊥
-      false_true e = let z : ◌≡◌ {A = ℕ} 0 1 = cc in omega arith
+  length_without m [] s = absurd cc
   length_without m (x ∷ xs) s =
       cond_both (eqb (k.number_of x) m) xs (x ∷ without k m xs) (λ ys. length ys + 1 ≡ length (x ∷ xs)) (λ e. omega arith)
       (λ e. let r = length_without m xs (sym (ap (λ b. b || stands k m xs) e) ∙ s) in omega (arith, r))

@@ -24,7 +24,7 @@ use Rattle.register.proofs.Steps.{apart as rising_apart}
 use Rattle.register.proofs.Laws.{each_all, all_each, ordered_means, ordered_from}
 use Rattle.register.proofs.Each.{each_at, any_default}
 use Rattle.register.proofs.FamiliesCounted.{ranked}
-use Rattle.register.proofs.FamilyLaws.{families_means, families_from, no_own_ancestor}
+use Rattle.register.proofs.FamilyLaws.{families_means, families_from, fits_first, no_own_ancestor}
 use Rattle.register.proofs.Guards.{guarded, guard_passes}
 
 -- ---- by places
@@ -125,15 +125,12 @@ module _ {C : Type 0} where
   hourly_from xs w = and_from _ _ (in_order_from hourly xs w.in_order) (and_from _ _ (places_each hour_right xs (λ i b l e. le-leb _ _ (w.hours i b l e))) (apart_from xs w.apart_each))
 
 -- ---- the form of a bid
-some_is_not_none : {X Y : Type 0} (x : X) → ◌≡◌ {A = Option X} (Some x) None → Y
-some_is_not_none x e = let z : ◌≡◌ {A = ℕ} 0 1 = cc in absurd (omega arith)
-
 or_else_none : (o p : Option ℕ) → or_else o p ≡ None → (o ≡ None) × (p ≡ None)
 or_else_none None p h = (refl, h)
-or_else_none (Some k) p h = some_is_not_none k h
+or_else_none (Some k) p h = absurd cc
 
 test_none : (t : Bool) (n : ℕ) → cond t (Some n) None ≡ None → t ≡ false
-test_none true n h = some_is_not_none n h
+test_none true n h = absurd cc
 test_none false n h = refl
 
 none_where : (t : ℕ → Bool) (n : ℕ) → first_where n t ≡ None → (i : ℕ) → i < n → t i ≡ false
@@ -144,7 +141,7 @@ none_where t (suc n) h i l =
 
 none_fault : (spans : Bool) (n : ℕ) (right : ℕ → Bool) → cond spans (first_where n (λ i. not (right i))) (Some 99) ≡ None → (spans ≡ true) × ((i : ℕ) → i < n → right i ≡ true)
 none_fault true n right h = (refl, λ i l. not-false _ (none_where (λ i. not (right i)) n h i l))
-none_fault false n right h = some_is_not_none 99 h
+none_fault false n right h = absurd cc
 
 block_form_means : (b : BlockBid) → block_fault b ≡ None → BlockForm b
 unfolding block_fault
@@ -172,7 +169,7 @@ fits_words b None h = absurd (both_ways _ refl h)
 fits_words b (Some y) h = let p = and_parts (eqb y.participant b.participant) (one_side (block_quantity y 0) (block_quantity b 0)) h in (y, refl, eqb-true _ _ p.0, p.1)
 
 parent_words : (xs : List BlockBid) (b : BlockBid) (o : Option ℕ) → elim o [ None ↦ true | Some p ↦ elim (standing_as block p xs) [ None ↦ false | Some y ↦ parent_fits b y ] ] ≡ true → (p : ℕ) → o ≡ Some p → ParentOf xs b p
-parent_words xs b None h p e = some_is_not_none p (sym e)
+parent_words xs b None h p e = absurd cc
 parent_words xs b (Some q) h p e = let z : q ≡ p = cc in subst (λ n. ParentOf xs b n) z (fits_words b (standing_as block q xs) h)
 
 words_parent : (xs : List BlockBid) (b : BlockBid) (o : Option ℕ) → ((p : ℕ) → o ≡ Some p → ParentOf xs b p) → elim o [ None ↦ true | Some p ↦ elim (standing_as block p xs) [ None ↦ false | Some y ↦ parent_fits b y ] ] ≡ true
@@ -187,12 +184,6 @@ some_of (Some r) h = (r, refl)
 
 is_some : (o : Option Rank) → (r : Rank) × (o ≡ Some r) → option_is_some o ≡ true
 is_some o s = ap option_is_some s.1
-
-family_words : (xs : List BlockBid) (h : ℕ) → family_fits xs h ≡ true → (level_count xs 1 h xs ≤ 3) × (level_count xs 2 h xs ≤ 3) × (level_count xs 1 h xs + level_count xs 2 h xs ≤ 5)
-family_words xs h f =
-    let p = and_parts (leb (level_count xs 1 h xs) 3) _ f in
-    let q = and_parts (leb (level_count xs 2 h xs) 3) _ p.1 in
-    (leb-true _ _ p.0, leb-true _ _ q.0, leb-true _ _ q.1)
 
 words_family : (xs : List BlockBid) (h : ℕ) → (level_count xs 1 h xs ≤ 3) × (level_count xs 2 h xs ≤ 3) × (level_count xs 1 h xs + level_count xs 2 h xs ≤ 5) → family_fits xs h ≡ true
 words_family xs h w = and_from _ _ (le-leb _ _ w.0) (and_from _ _ (le-leb _ _ w.1) (le-leb _ _ w.2))
@@ -210,7 +201,7 @@ blocks_means l xs h =
       parents = λ i b n e. parent_words xs b b.parent (each_at (parent_kept xs) xs i b (all_each (parent_kept xs) xs f.parents) n e);
       levels = λ i b n e. some_of (rank xs b) (each_at (ranked xs) xs i b (all_each (ranked xs) xs f.ranks) n e);
       ancestors = no_own_ancestor xs q.1;
-      few_on_level = λ g. family_words xs g (f.fits g);
+      few_on_level = λ g. fits_first xs g (f.fits g);
     }
 
 pub blocks_from : (l : Limits) (xs : List BlockBid) → LawfulBlocks l xs → blocks_kept l xs ≡ true
