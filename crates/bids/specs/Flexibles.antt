@@ -1,15 +1,15 @@
 -- The form of a flexible bid, and its starts.
-use Rattle.std.specs.Prelude.{◌≡◌, ℕ, ◌+◌, ◌-◌, ◌<◌, Bool, true, false, cond, not, ◌&&◌, List, [], ◌∷◌, ℤ, pos, Some, Ok, Err, MatchBool, Option, nat_le, slice_index_or}
+use Rattle.std.specs.Prelude.{ℕ, ◌+◌, ◌-◌, Bool, cond, ◌&&◌, List, ℤ, Option, nat_le}
 use Rattle.market.specs.declared.refusals.Refusal.{Refusal}
-use Rattle.market.specs.declared.refusals.Rule.TheVariants as rules
 use Rattle.market.specs.declared.sides.Side.{Side}
 use Rattle.bids.specs.declared.rows.FlexibleBid.{FlexibleBid}
-use Rattle.bids.specs.Checks.{Answer, broken_at, first_where}
-use Rattle.bids.specs.Quantities.{side_of, sized, one_side}
+use Rattle.bids.specs.Checks.{Answer}
+use Rattle.bids.specs.Profiles.{Profile, fault, form_rules, FormKept, Formed}
+use Rattle.bids.specs.Quantities.{quantity_in, side_of, sized, one_side}
 
 -- the quantity of a flexible bid in its hour i, counted from 0
 abbrev pub flexible_quantity : FlexibleBid → ℕ → ℤ
-flexible_quantity b i = slice_index_or b.quantities i (pos 0)
+flexible_quantity b = quantity_in b.quantities
 
 -- whether a flexible bid buys or sells, as its hour 0 does
 abbrev pub flexible_side : FlexibleBid → Side
@@ -23,29 +23,25 @@ flexible_spans b = nat_le 8 b.length && (nat_le b.length 24 && (nat_le (b.start 
 abbrev pub flexible_right : FlexibleBid → ℕ → Bool
 flexible_right b i = sized 1000 (flexible_quantity b i) && one_side (flexible_quantity b 0) (flexible_quantity b i)
 
+-- a flexible bid with its quantities and its form
+abbrev pub flexible_profile : FlexibleBid → Profile
+flexible_profile b = record { price = b.price; spans = flexible_spans b; hours = b.duration; quantities = b.quantities; right = flexible_right b }
+
 -- where the form of a flexible bid is broken: 99 for its window or duration, else the first of its hours that is not right
-unfoldable pub flexible_fault : FlexibleBid → Option ℕ
-flexible_fault b = cond (flexible_spans b) (first_where b.duration (λ i. not (flexible_right b i))) (Some 99)
+abbrev pub flexible_fault : FlexibleBid → Option ℕ
+flexible_fault b = fault (flexible_profile b)
 
 -- the form, as a rule of an entry
 abbrev pub flexible_form : FlexibleBid → List (Option Refusal)
-flexible_form b = broken_at rules.Form (flexible_fault b) ∷ []
+flexible_form b = form_rules (flexible_profile b)
 
 -- the flexible bid keeps its form: its window and duration are allowed, and each hour is right
-pub record FlexibleForm (b : FlexibleBid) : Type 0 where
-  pub spans : flexible_spans b ≡ true
-  pub right : (i : ℕ) → i < b.duration → flexible_right b i ≡ true
-
--- the hour k is the first of the flexible bid that is not right
-pub record FirstWrong (b : FlexibleBid) (k : ℕ) : Type 0 where
-  pub within : k < b.duration
-  pub wrong : flexible_right b k ≡ false
-  pub before : (i : ℕ) → i < k → flexible_right b i ≡ true
+abbrev pub FlexibleForm : FlexibleBid → Type 0
+FlexibleForm b = FormKept (flexible_profile b)
 
 -- what the check of a flexible bid's form answers
 abbrev pub FlexibleFormed : FlexibleBid → Answer → Type 0
-FlexibleFormed b (Ok _) = FlexibleForm b
-FlexibleFormed b (Err e) = (e.rule ≡ rules.Form) × MatchBool (flexible_spans b) (FirstWrong b e.place) (e.place ≡ 99)
+FlexibleFormed b = Formed (flexible_profile b)
 
 -- how many starts a flexible bid has: its window less its duration and one more, and none where these are not allowed
 abbrev pub starts_of : FlexibleBid → ℕ

@@ -1,7 +1,11 @@
 -- The quantities of a block or a flexible bid.
-use Rattle.std.specs.Prelude.{ℕ, ◌*◌, Bool, true, false, ◌&&◌, ℤ, pos, negsuc, nat_le, nat_lt, unsigned_abs}
+use Rattle.std.specs.Prelude.{ℕ, ◌*◌, Bool, true, false, ◌&&◌, List, ℤ, pos, negsuc, nat_le, nat_lt, slice_index_or, unsigned_abs}
 use Rattle.market.specs.declared.sides.Side.{Side}
 use Rattle.market.specs.declared.sides.Side.TheVariants.{Buying, Selling}
+
+-- of quantities in a row of hours, the one in the hour i, counted from 0; past their end it is 0
+abbrev pub quantity_in : List ℤ → ℕ → ℤ
+quantity_in qs i = slice_index_or qs i (pos 0)
 
 -- a quantity below 0 is sold, any other is bought
 abbrev pub side_of : ℤ → Side

@@ -5,8 +5,10 @@
 pub mod blocks;
 pub mod flexibles;
 pub mod kinds;
+pub mod profiles;
 pub mod quantities;
 pub mod rows;
 
 pub use kinds::Bid;
+pub use profiles::Profile;
 pub use rows::{BlockBid, FlexibleBid, HourlyBid};

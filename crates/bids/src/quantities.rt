@@ -3,10 +3,8 @@
 ghost use Rattle.std.specs.Prelude.{◌≡◌};
 ghost use Rattle.bids.specs.Quantities.{side_of, sized, one_side, near};
 
+pub use market::BAD_COUNT;
 use market::Side;
-
-/// The place of a refusal for a count, a first hour or a window that is not allowed.
-pub const BAD_COUNT: u32 = 99;
 
 /// Whether a quantity is bought or sold.
 pub fn side(quantity: i32) -> Side
@@ -23,15 +21,14 @@ pub fn side(quantity: i32) -> Side
 pub fn is_sized(quantity: i32, most: u32) -> bool
     ensures { result ≡ sized most quantity }
 {
-    let size = quantity.unsigned_abs();
-    0 < size && size <= most
+    (1..=most).contains(&quantity.unsigned_abs())
 }
 
 /// Whether two quantities are both bought or both sold.
 pub fn are_one_side(first: i32, other: i32) -> bool
     ensures { result ≡ one_side first other }
 {
-    if first < 0 { other < 0 } else { other >= 0 }
+    side(first) == side(other)
 }
 
 /// Whether a quantity is in size at most three times and at least a third of the one before.

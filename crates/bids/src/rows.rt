@@ -1,4 +1,7 @@
 //! The rows of the registers. Every content is a row; what is lawful is decided by checks.
+//!
+//! Rows lie by value in tables that a caller lends, and nothing here allocates: so the quantities have room for the most
+//! hours that a bid can have, and the count of hours stands beside them.
 
 /// A bid for one hour, with a price curve.
 #[derive(Clone, Copy)]

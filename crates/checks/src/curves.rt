@@ -12,10 +12,8 @@ fn level(price: u32, quantity: i32) -> Level {
 
 /// The number and place of a refusal, or nothing where something was made.
 fn refused<T: Drop>(made: Result<T, Refusal>) -> Option<(u8, u32)> {
-    match made {
-        Ok(_) => None,
-        Err(refusal) => Some((refusal.rule.number(), refusal.place)),
-    }
+    made.err()
+        .map(|refusal| (refusal.rule.number(), refusal.place))
 }
 
 #[test]

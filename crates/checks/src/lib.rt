@@ -5,3 +5,5 @@
 mod curves;
 #[cfg(test)]
 mod matches;
+#[cfg(test)]
+mod sheets;

@@ -104,14 +104,9 @@ fn measure_quantity<C: PriceCurve>(
     label: &str,
     curve: &C,
 ) -> Result<(), Failure> {
-    let start = Instant::now(rt)?;
-    let mut checksum: i64 = 0;
-    let mut price: u32 = 0;
-    for _ in 0..QUESTIONS {
-        checksum = checksum.wrapping_add(curve.quantity(price) as i64);
-        price = price.wrapping_add(7919) % 65_000;
-    }
-    print_time(rt, label, start, QUESTIONS, checksum)
+    measure_each(rt, label, QUESTIONS, |question| {
+        curve.quantity(question.wrapping_mul(7919) % 65_000) as i64
+    })
 }
 
 /// Prints how long a curve takes to answer for the gain of a match, under ever other limits.
@@ -122,26 +117,26 @@ fn measure_gain<C: ValuedCurve>(
     matched: i32,
     questions: u32,
 ) -> Result<(), Failure> {
-    let start = Instant::now(rt)?;
-    let mut checksum: i64 = 0;
-    for question in 0..questions {
+    measure_each(rt, label, questions, |question| {
         let limits = Limits {
             lowest: 0,
             highest: question % 1000 + 100_000,
         };
-        checksum = checksum.wrapping_add(gain(curve, limits, matched));
-    }
-    print_time(rt, label, start, questions, checksum)
+        gain(curve, limits, matched)
+    })
 }
 
-/// Prints the time since a start for each of so many questions.
-fn print_time(
+/// Prints how long each of so many questions takes to be answered.
+fn measure_each<F: Fn(u32) -> i64>(
     rt: &HostRuntime,
     label: &str,
-    start: Instant,
     questions: u32,
-    checksum: i64,
-) -> Result<(), Failure> {
+    answer: F,
+) -> Result<(), Failure>
+    requires { F.IsAlwaysCallable answer }
+{
+    let start = Instant::now(rt)?;
+    let checksum = (0..questions).fold(0, |sum: i64, question| sum.wrapping_add(answer(question)));
     let spent = start.elapsed(rt)?.as_nanos();
     let each = spent / questions.max(1) as u128;
     println!(rt; "{label:<58}  {each:>14}  {checksum:>20}")?;

@@ -4,15 +4,14 @@ use crate::failure::{Reason, Wanted};
 use std::alloc::{AllocError, Global};
 use std::str::FromStr;
 
-/// The words of a line, which spaces separate.
+/// The words of a line, which spaces separate. A line that begins with `#` is a comment, and has none.
 pub fn words_of<'a>(heap: Global, line: &'a str) -> Result<Vec<&'a str>, AllocError> {
-    let mut words = Vec::new(heap);
-    for word in line.split(' ') {
-        if !word.is_empty() {
-            words.push(word)?;
-        }
+    if line.starts_with('#') {
+        return Ok(Vec::new(heap));
     }
-    Ok(words)
+    line.split(' ')
+        .filter(|word| !word.is_empty())
+        .collect(heap)
 }
 
 /// The words of a line that are still to be read.
@@ -56,8 +55,8 @@ impl<'a, 'b> Cursor<'a, 'b> {
         }
     }
 
-    /// The next word, which is a number that its type can hold.
-    pub fn number<T: FromStr + Drop>(&mut self, wanted: Wanted) -> Result<T, Reason>
+    /// The next word, as what its type can read.
+    pub fn read<T: FromStr + Drop>(&mut self, wanted: Wanted) -> Result<T, Reason>
     where
         T::Err: Drop,
     {
@@ -65,7 +64,7 @@ impl<'a, 'b> Cursor<'a, 'b> {
         self.parse(word, wanted)
     }
 
-    /// A number that its type can hold: decimal, with no plus sign.
+    /// A word as what its type can read, with no plus sign before it.
     pub fn parse<T: FromStr + Drop>(&self, word: &str, wanted: Wanted) -> Result<T, Reason>
     where
         T::Err: Drop,
@@ -73,17 +72,14 @@ impl<'a, 'b> Cursor<'a, 'b> {
         if word.starts_with('+') {
             return Err(self.is_no(word, wanted));
         }
-        match word.parse::<T>() {
-            Ok(number) => Ok(number),
-            Err(_) => Err(self.is_no(word, wanted)),
-        }
+        word.parse::<T>().map_err(|_| self.is_no(word, wanted))
     }
 
     /// That a word is not what is expected at its place.
     pub fn is_no(&self, word: &str, wanted: Wanted) -> Reason {
-        match String::from_str(self.heap, word) {
-            Ok(word) => Reason::IsNo(word, wanted),
-            Err(_) => Reason::Memory,
-        }
+        String::from_str(self.heap, word).map_or_else(
+            Reason::from,
+            |word| Reason::IsNo(word, wanted),
+        )
     }
 }

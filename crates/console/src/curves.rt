@@ -18,8 +18,8 @@ pub fn read_draft(words: &mut Cursor<'_, '_>) -> Result<Draft, Reason> {
     };
     let (bought, sold) = if words.take_if("cap") {
         (
-            words.number(Wanted::CapNumber)?,
-            words.number(Wanted::CapNumber)?,
+            words.read(Wanted::CapNumber)?,
+            words.read(Wanted::CapNumber)?,
         )
     } else {
         (NO_CAP, NO_CAP)
@@ -38,7 +38,7 @@ fn read_part(words: &mut Cursor<'_, '_>) -> Result<Part, Reason> {
     match words.take(Wanted::Curve)? {
         "linear" => Ok(Part::Linear(read_levels(words)?)),
         "stepped" => Ok(Part::Stepped(read_levels(words)?)),
-        "flat" => Ok(Part::Flat(words.number(Wanted::Quantity)?)),
+        "flat" => Ok(Part::Flat(words.read(Wanted::Quantity)?)),
         word => Err(words.is_no(word, Wanted::Curve)),
     }
 }

@@ -1,12 +1,14 @@
-//! Why the program ends without doing what was asked.
+//! Why the program ends without doing what was asked. These are enums, and not `anyhow::Error`: that keeps 120 bytes of a
+//! message, and a word that is shown may be longer.
 
 use crate::words::Told;
 use market::Refusal;
-use std::alloc::{AllocError, AllocFailed};
+use std::alloc::AllocError;
 use std::{fmt, io};
+use thiserror::Error;
 
 /// What was expected of a word.
-#[derive(Clone, Copy)]
+#[derive(Clone, Copy, Debug)]
 pub enum Wanted {
     Price,
     Quantity,
@@ -29,155 +31,92 @@ pub enum Wanted {
     Of,
 }
 
+// By hand, since the derive that gives an error its text would make an error of what is expected.
 impl fmt::Display for Wanted {
+    /// What was expected, in words that follow "no".
     fn fmt<W: fmt::Write>(&self, f: &mut fmt::Formatter<W>) -> fmt::Result {
-        let words = named(*self);
-        write!(f, "{words}")
-    }
-}
-
-/// What was expected, in words that follow "no".
-fn named(wanted: Wanted) -> &'static str {
-    match wanted {
-        Wanted::Price => "price from 0 to 4294967295",
-        Wanted::Quantity => "quantity from -2147483648 to 2147483647",
-        Wanted::CapNumber => "number of lots for a cap from 0 to 4294967295",
-        Wanted::Level => "level PRICE:QUANTITY",
-        Wanted::Curve => "curve: linear, stepped or flat",
-        Wanted::Name => "name of a bid",
-        Wanted::Call =>
-            "call: open, enter, withdraw, close, prices, matches, marks, starts, propose or lines",
-        Wanted::Kind => "kind of bid: hourly, block or flexible",
-        Wanted::Number => "number of a bid from 0 to 65535",
-        Wanted::Participant => "participant from 0 to 65535",
-        Wanted::Parent => "parent: a number from 0 to 65535, or - for none",
-        Wanted::Hour => "hour from 0 to 255",
-        Wanted::HourCount => "count of hours from 0 to 255",
-        Wanted::Places => "count of places from 0 to 18446744073709551615",
-        Wanted::Match => "match from -2147483648 to 2147483647",
-        Wanted::Mark => "mark from 0 to 255",
-        Wanted::Start => "start from 0 to 255, or - for none",
-        Wanted::LineNumber => "number of lines from 0 to 18446744073709551615",
-        Wanted::Of => "\"of\" and a count of lines",
+        f.write_str(match self {
+            Wanted::Price => "price from 0 to 4294967295",
+            Wanted::Quantity => "quantity from -2147483648 to 2147483647",
+            Wanted::CapNumber => "number of lots for a cap from 0 to 4294967295",
+            Wanted::Level => "level PRICE:QUANTITY",
+            Wanted::Curve => "curve: linear, stepped or flat",
+            Wanted::Name => "name of a bid",
+            Wanted::Call =>
+                "call: open, enter, withdraw, close, prices, matches, marks, starts, propose or lines",
+            Wanted::Kind => "kind of bid: hourly, block or flexible",
+            Wanted::Number => "number of a bid from 0 to 65535",
+            Wanted::Participant => "participant from 0 to 65535",
+            Wanted::Parent => "parent: a number from 0 to 65535, or - for none",
+            Wanted::Hour => "hour from 0 to 255",
+            Wanted::HourCount => "count of hours from 0 to 255",
+            Wanted::Places => "count of places from 0 to 18446744073709551615",
+            Wanted::Match => "match from -2147483648 to 2147483647",
+            Wanted::Mark => "mark from 0 to 255",
+            Wanted::Start => "start from 0 to 255, or - for none",
+            Wanted::LineNumber => "number of lines from 0 to 18446744073709551615",
+            Wanted::Of => "\"of\" and a count of lines",
+        })
     }
 }
 
 /// Why a line cannot be read.
-#[derive(Drop)]
+#[derive(Debug, Drop, Error)]
 pub enum Reason {
     /// A word is not what is expected at its place.
+    #[error("\"{0}\" is no {1}")]
     IsNo(String, Wanted),
     /// The line ends where something is expected.
+    #[error("there is no {0} where one belongs")]
     Lacks(Wanted),
     /// A word comes after the end of what the line can hold.
+    #[error("\"{0}\" comes after the end of the line's words")]
     Unexpected(String),
     /// The limits do not come first.
+    #[error("the limits do not come first: limits PMIN PMAX")]
     NoLimits,
     /// The limits come a second time.
+    #[error("the limits come a second time")]
     LimitsAgain,
     /// The limits are refused.
+    #[error("the limits are refused: {}", Told(*.0))]
     LimitsRefused(Refusal),
     /// There is one curve too many.
+    #[error("there are more than 4096 curves")]
     TooManyCurves,
     /// There are more quantities than a bid can have.
+    #[error("there are more than {0} quantities")]
     TooManyQuantities(usize),
     /// No memory can hold the tables of a day.
+    #[error("no memory can hold tables of these sizes")]
     Tables,
     /// There is no memory left for the line.
-    Memory,
-}
-
-impl fmt::Display for Reason {
-    fn fmt<W: fmt::Write>(&self, f: &mut fmt::Formatter<W>) -> fmt::Result {
-        match self {
-            Reason::IsNo(word, wanted) => write!(f, "\"{word}\" is no {wanted}"),
-            Reason::Lacks(wanted) => write!(f, "there is no {wanted} where one belongs"),
-            Reason::Unexpected(word) => write!(
-                f,
-                "\"{word}\" comes after the end of the line's words"
-            ),
-            Reason::NoLimits => write!(f, "the limits do not come first: limits PMIN PMAX"),
-            Reason::LimitsAgain => write!(f, "the limits come a second time"),
-            Reason::LimitsRefused(refusal) => {
-                let told = Told { refusal: *refusal };
-                write!(f, "the limits are refused: {told}")
-            }
-            Reason::TooManyCurves => write!(f, "there are more than 4096 curves"),
-            Reason::TooManyQuantities(most) => write!(f, "there are more than {most} quantities"),
-            Reason::Tables => write!(f, "no memory can hold tables of these sizes"),
-            Reason::Memory => write!(f, "there is no memory left"),
-        }
-    }
-}
-
-impl From<AllocError> for Reason {
-    fn from(_error: AllocError) -> Reason {
-        Reason::Memory
-    }
-}
-
-impl<T: Drop> From<AllocFailed<T>> for Reason {
-    fn from(_error: AllocFailed<T>) -> Reason {
-        Reason::Memory
-    }
+    #[error("there is no memory left")]
+    Memory(#[from(alloc)] AllocError),
 }
 
 /// Why the program ends without doing what was asked.
-#[derive(Drop)]
+#[derive(Debug, Drop, Error)]
 pub enum Failure {
     /// A line of the input cannot be read.
+    #[error("line {0}: {1}")]
     Line(usize, Reason),
     /// There is no such command.
+    #[error("there is no command \"{0}\"")]
     Command(String),
     /// A command has a word too many.
+    #[error("\"{0}\" is a word too many")]
     Excess(String),
     /// A curve or a bid to measure was refused.
-    Sample(Refusal),
+    #[error("what is to be measured is refused: {}", Told(*.0))]
+    Sample(#[from] Refusal),
     /// A file cannot be read.
+    #[error("{0}: {1}")]
     File(String, io::Error),
     /// Reading or writing failed.
-    Stream(io::Error),
+    #[error(transparent)]
+    Stream(#[from] io::Error),
     /// There is no memory left.
-    Memory,
-}
-
-impl fmt::Display for Failure {
-    fn fmt<W: fmt::Write>(&self, f: &mut fmt::Formatter<W>) -> fmt::Result {
-        match self {
-            Failure::Line(number, reason) => write!(f, "line {number}: {reason}"),
-            Failure::Command(word) => write!(f, "there is no command \"{word}\""),
-            Failure::Excess(word) => write!(f, "\"{word}\" is a word too many"),
-            Failure::Sample(refusal) => {
-                let told = Told { refusal: *refusal };
-                write!(f, "what is to be measured is refused: {told}")
-            }
-            Failure::File(path, error) => write!(f, "{path}: {error}"),
-            Failure::Stream(error) => write!(f, "{error}"),
-            Failure::Memory => write!(f, "there is no memory left"),
-        }
-    }
-}
-
-impl From<AllocError> for Failure {
-    fn from(_error: AllocError) -> Failure {
-        Failure::Memory
-    }
-}
-
-impl<T: Drop> From<AllocFailed<T>> for Failure {
-    fn from(_error: AllocFailed<T>) -> Failure {
-        Failure::Memory
-    }
-}
-
-impl From<io::Error> for Failure {
-    fn from(error: io::Error) -> Failure {
-        Failure::Stream(error)
-    }
-}
-
-impl From<Refusal> for Failure {
-    fn from(refusal: Refusal) -> Failure {
-        Failure::Sample(refusal)
-    }
+    #[error("there is no memory left")]
+    Memory(#[from(alloc)] AllocError),
 }

@@ -9,10 +9,7 @@ use std::io::Read;
 pub fn read_text(rt: &HostRuntime, file: Option<String>) -> Result<String, Failure> {
     let heap = rt.alloc();
     let bytes = match file {
-        Some(path) => match fs::read(rt, path.as_str()) {
-            Ok(bytes) => bytes,
-            Err(error) => return Err(Failure::File(path, error)),
-        },
+        Some(path) => fs::read(rt, path.as_str()).map_err(|error| Failure::File(path, error))?,
         None => {
             let mut bytes = Vec::new(heap);
             rt.stdin().read_to_end(&mut bytes)?;

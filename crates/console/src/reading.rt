@@ -12,19 +12,16 @@ use std::alloc::Global;
 
 /// The hour that a text has, or why one of its lines cannot be read.
 pub fn read(heap: Global, text: &str) -> Result<Sheet, Failure> {
-    let mut number: usize = 0;
     let mut sheet: Option<Sheet> = None;
-    for line in text.lines() {
-        number = number.saturating_add(1);
-        match read_line(heap, number, line, sheet) {
-            Ok(next) => sheet = next,
-            Err(reason) => return Err(Failure::Line(number, reason)),
-        }
+    for (number, line) in (1..).zip(text.lines()) {
+        sheet = read_line(heap, number, line, sheet).map_err(|reason| Failure::Line(
+            number, reason,
+        ))?;
     }
-    match sheet {
-        Some(sheet) => Ok(sheet),
-        None => Err(Failure::Line(number.saturating_add(1), Reason::NoLimits)),
-    }
+    sheet.ok_or_else(|| {
+        let after = text.lines().count().saturating_add(1);
+        Failure::Line(after, Reason::NoLimits)
+    })
 }
 
 /// What there is after one more line.
@@ -34,9 +31,6 @@ fn read_line(
     line: &str,
     before: Option<Sheet>,
 ) -> Result<Option<Sheet>, Reason> {
-    if line.starts_with('#') {
-        return Ok(before);
-    }
     let words = words_of(heap, line)?;
     let mut words = Cursor {
         heap,
@@ -64,13 +58,10 @@ fn read_limits(words: &mut Cursor<'_, '_>) -> Result<Limits, Reason>
     if !words.take_if("limits") {
         return Err(Reason::NoLimits);
     }
-    let lowest = words.number(Wanted::Price)?;
-    let highest = words.number(Wanted::Price)?;
+    let lowest = words.read(Wanted::Price)?;
+    let highest = words.read(Wanted::Price)?;
     words.end()?;
-    match Limits::new(lowest, highest) {
-        Ok(limits) => Ok(limits),
-        Err(refusal) => Err(Reason::LimitsRefused(refusal)),
-    }
+    Limits::new(lowest, highest).map_err(Reason::LimitsRefused)
 }
 
 /// Adds the bid of a line: `NAME: CURVE`, or `CURVE` alone, which is named by its line.
@@ -85,14 +76,14 @@ fn read_bid(number: usize, words: &mut Cursor<'_, '_>, sheet: &mut Sheet) -> Res
 
 /// The name of a bid: a word that ends in its only colon and has more than that, or else its line.
 fn read_name(number: usize, words: &mut Cursor<'_, '_>) -> Result<String, Reason> {
-    if let [first, rest @ ..] = words.rest {
-        if let Some(name) = first.strip_suffix(':') {
-            if name.is_empty() || name.contains(':') {
-                return Err(words.is_no(name, Wanted::Name));
-            }
-            words.rest = rest;
-            return Ok(String::from_str(words.heap, name)?);
+    if let [first, rest @ ..] = words.rest
+        && let Some(name) = first.strip_suffix(':')
+    {
+        if name.is_empty() || name.contains(':') {
+            return Err(words.is_no(name, Wanted::Name));
         }
+        words.rest = rest;
+        return Ok(String::from_str(words.heap, name)?);
     }
     Ok(format!(in words.heap; "line {number}")?)
 }

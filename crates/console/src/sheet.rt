@@ -1,37 +1,31 @@
-//! The hour that was read: its limits, its bids and the curves of those that stand.
+//! The hour that was read: its limits, and its bids.
 
-ghost use Rattle.std.specs.Prelude.{◌≡◌, ◌≤◌, true, [], vec_len};
+ghost use Rattle.std.specs.Prelude.{◌≡◌, ◌≤◌, true, [], vec_len, IfOk};
+ghost use Rattle.std.specs.List.{filter_map};
+ghost use Rattle.std.specs.Result.{result_ok};
 ghost use Rattle.market.specs.Prices.{lawful};
 
 use crate::failure::Reason;
 use market::{Limits, Refusal};
 use merit::{BidCurve, Draft};
-use std::alloc::Global;
+use std::alloc::{AllocError, Global};
 
 /// The most curves that are read.
 pub const MOST_CURVES: usize = 4096;
 
-/// What became of a bid: it stands with the curve at an index, or it is refused.
-#[derive(Clone, Copy)]
-pub enum Outcome {
-    Standing(usize),
-    Refused(Refusal),
-}
-
-/// A bid, with its name.
+/// A bid, with its name. It stands with its curve, or that is refused.
 #[derive(Drop)]
 pub struct Entry {
     pub name: String,
-    pub outcome: Outcome,
+    pub curve: Result<BidCurve, Refusal>,
 }
 
-/// The limits of an hour, its bids by rising line, and the curves of the bids that stand.
+/// The limits of an hour, and its bids by rising line.
 #[derive(Drop)]
 pub struct Sheet {
     pub limits: Limits,
     pub entries: Vec<Entry>,
-    pub curves: Vec<BidCurve>,
-    ghost few: { (vec_len curves ≤ vec_len entries) × (vec_len entries ≤ 4096) },
+    ghost few: { vec_len entries ≤ 4096 },
     ghost are_lawful: { lawful limits ≡ true },
 }
 
@@ -39,12 +33,12 @@ impl Sheet {
     /// An hour without bids.
     pub fn new(heap: Global, limits: Limits) -> Sheet
         requires { lawful limits ≡ true }
-        ensures { (result.limits ≡ limits) × ((result.entries.items ≡ []) × (result.curves.items ≡ [])) }
+        ensures limits { result.limits ≡ limits }
+        ensures entries { result.entries.items ≡ [] }
     {
         Sheet {
             limits,
             entries: Vec::new(heap),
-            curves: Vec::new(heap),
         }
     }
 
@@ -55,17 +49,19 @@ impl Sheet {
         if self.entries.len() >= MOST_CURVES {
             return Err(Reason::TooManyCurves);
         }
-        match draft.make() {
-            Ok(curve) => {
-                let outcome = Outcome::Standing(self.curves.len());
-                self.entries.push(Entry { name, outcome })?;
-                self.curves.push(curve)?;
-            }
-            Err(refusal) => {
-                let outcome = Outcome::Refused(refusal);
-                self.entries.push(Entry { name, outcome })?;
-            }
-        }
+        let curve = draft.make();
+        self.entries.push(Entry { name, curve })?;
         Ok(())
+    }
+
+    /// The curves of the bids that stand, in their order.
+    pub fn curves(&self, heap: Global) -> Result<Vec<BidCurve>, AllocError>
+        ensures standing { IfOk result (λ curves. curves.items ≡ filter_map (λ e. result_ok e.curve) self.now.entries.items) }
+        ensures few { IfOk result (λ curves. vec_len curves ≤ 4096) }
+    {
+        self.entries
+            .iter()
+            .filter_map(|entry| entry.curve.ok())
+            .collect(heap)
     }
 }

@@ -1,28 +1,33 @@
 //! What each refusal means, in words.
 
-use market::{Refusal, Rule};
+use market::{BAD_COUNT, Refusal, Rule};
 use std::fmt;
-
-/// The place of a refusal for a count, a first hour or a window that is not allowed.
-const BAD_COUNT: u32 = 99;
 
 /// A refusal as it is shown: its number, its place and what it means.
 #[derive(Clone, Copy)]
-pub struct Told {
-    pub refusal: Refusal,
+pub struct Told(pub Refusal);
+
+impl From<Refusal> for Told {
+    fn from(refusal: Refusal) -> Told {
+        Told(refusal)
+    }
 }
 
 impl fmt::Display for Told {
     fn fmt<W: fmt::Write>(&self, f: &mut fmt::Formatter<W>) -> fmt::Result {
-        let number = self.refusal.rule.number();
-        let place = self.refusal.place;
-        let words = meaning(self.refusal);
-        write!(f, "{number} {place} {words}")
+        let Told(refusal) = *self;
+        write!(
+            f,
+            "{} {} {}",
+            refusal.rule.number(),
+            refusal.place,
+            meaning(refusal)
+        )
     }
 }
 
 /// What was wrong where a call was refused.
-pub fn meaning(refusal: Refusal) -> &'static str {
+fn meaning(refusal: Refusal) -> &'static str {
     match refusal.rule {
         Rule::Limits =>
             "the lowest price is not below the highest, or the highest is above 10,000,000",

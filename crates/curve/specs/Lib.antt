@@ -1,4 +1,5 @@
 pub mod Laws
+pub mod Searches
 pub mod Worth
 pub mod Ranges
 pub mod Margins

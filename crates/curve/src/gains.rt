@@ -16,6 +16,7 @@ pub fn worth_of_lots<C: ValuedCurve>(curve: &C, limits: Limits, side: Side, lots
 {
     let mut total: u64 = 0;
     let mut counted: u32 = 0;
+    // No `for` over the lots: a turn goes on by a whole run of lots of equal worth, as many as the curve has there.
     while counted < lots {
         let Some(price) = curve.worth(limits, side, counted + 1) else {
             break;

@@ -1,4 +1,3 @@
-pub mod Parts
-pub mod Moves
 pub mod Past
+pub mod Moves
 pub mod Runs

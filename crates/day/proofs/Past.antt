@@ -1,12 +1,11 @@
 -- The law over runs: one more call.
-use Rattle.std.proofs.Common.{◌≡◌, ℕ, true, false, cond, ◌||◌, List, [], ◌∷◌, ◌++◌, is_ok, Ok, Err, Result, sym, refl, ap, ◌∙◌, subst, arith}
+use Rattle.std.proofs.Common.{◌≡◌, true, false, cond, ◌||◌, List, [], ◌∷◌, ◌++◌, is_ok, Ok, Err, Result, sym, refl, ap, ◌∙◌, subst}
 use Rattle.std.proofs.lemmas.Bool.{cond_both}
-use Rattle.market.specs.Prices.{lawful}
 use Rattle.market.specs.declared.limits.Limits.{Limits}
 use Rattle.market.specs.declared.refusals.Refusal.{Refusal}
 use Rattle.bids.specs.Checks.{Answer, first_of}
 use Rattle.bids.proofs.Checks.{goes}
-use Rattle.register.specs.Lawful.{Tables, register_rules}
+use Rattle.register.specs.Lawful.{Tables, hourly_kept, blocks_kept, flexible_kept, register_rules}
 use Rattle.register.specs.declared.lawful.Counts.{Counts}
 use Rattle.register.proofs.EntryLaws.{hourly_enters, hourly_leaves, block_enters, block_leaves, flexible_enters, flexible_leaves}
 use Rattle.register.proofs.FamilyLaws.{families_none}
@@ -17,14 +16,19 @@ use Rattle.day.specs.declared.states.ClosedDay.{ClosedDay}
 use Rattle.day.specs.Book.{Book, opening, call_rules, after_call, closes, answer, next, Entry, after, Answered}
 use Rattle.day.specs.Days.{places_of, standing, Within, day_rules, Done, Closed, Told, noted, TellsOn, TellsOnClosed}
 use Rattle.register.proofs.Guards.{Guarded, guard_passes}
-use Rattle.day.proofs.Parts.{AllKept}
+
+-- bids that may stand together, of all three kinds
+record AllKept {C : Type 0} (l : Limits) (x : Tables C) : Type 0 where
+  pub hourly_right : hourly_kept x.hourly ≡ true
+  pub blocks_right : blocks_kept l x.blocks ≡ true
+  pub flexible_right : flexible_kept l x.flexible ≡ true
 
 is_done : (r : Answer) → is_ok r ≡ true → r ≡ Ok tt
 is_done (Ok tt) h = refl
-is_done (Err e) h = let z : ◌≡◌ {A = ℕ} 0 1 = cc in absurd (omega arith)
+is_done (Err e) h = absurd cc
 
 module _ {C : Type 0} where
-  after_push : (m : Book C) (past : List (Entry C)) (e : Entry C) → after m (past ++ e ∷ []) ≡ next e.places (after m past) e.call
+  pub after_push : (m : Book C) (past : List (Entry C)) (e : Entry C) → after m (past ++ e ∷ []) ≡ next e.places (after m past) e.call
   after_push m [] e = refl
   after_push m (x ∷ past) e = after_push (next x.places m x.call) past e
 
@@ -131,14 +135,3 @@ module _ {C : Type 0} where
       told_done l past day.limits day.counts t s calls.Close d.limits d.counts t h.0 h.1 (ap (λ n. standing n t) h.2) (subst (λ n. Within n t) (sym h.2) s.within)
   tells_on_closed day t (Err e) h = λ l past s.
       subst (λ z. Told l (noted past t calls.Close (Err e.1)) false z.limits z.counts t) (sym h.1) (told_refused l past day.limits day.counts t s calls.Close e.1 h.0)
-
-  -- a day that was opened tells the empty past
-  pub tells_none : (l : Limits) (limits : Limits) (n : Counts) → lawful l ≡ true → limits ≡ l → n ≡ record { hourly = 0; blocks = 0; flexible = 0 } → (t : Tables C) → Told l [] false limits n t
-  tells_none l limits n h e z t = record {
-    lawful_limits = h;
-    answers = tt;
-    same_limits = e;
-    same_bids = ap (λ m. standing m t) z;
-    within = subst (λ m. Within m t) (sym z) (omega arith, omega arith, omega arith);
-    state = refl;
-  }

@@ -1,4 +1,3 @@
-pub mod Outcomes
 pub mod States
 pub mod Book
 pub mod Days

@@ -1,18 +1,16 @@
 -- Whole runs of calls.
-use Rattle.std.specs.Prelude.{◌≡◌, true, false, cond, List, [], ◌∷◌, ◌++◌, Ok, Err, Result}
+use Rattle.std.specs.Prelude.{◌≡◌, true, false, cond, List, [], ◌∷◌, ◌++◌, Some, None, Ok, Err, Option, Result}
 use Rattle.market.specs.Prices.{lawful}
 use Rattle.market.specs.declared.limits.Limits.{Limits}
 use Rattle.market.specs.declared.refusals.Refusal.{Refusal}
 use Rattle.market.specs.declared.refusals.Rule.TheVariants as rules
+use Rattle.bids.specs.Checks.{Answer}
 use Rattle.register.specs.Lawful.{Tables}
 use Rattle.register.specs.declared.lawful.Counts.{Counts}
 use Rattle.day.specs.declared.calls.Call.{Call}
 use Rattle.day.specs.declared.calls.Step.{Step}
-use Rattle.day.specs.declared.calls.Outcome.{Outcome}
-use Rattle.day.specs.declared.calls.Outcome.TheVariants.{NotMade}
 use Rattle.day.specs.declared.states.Day.{Day}
 use Rattle.day.specs.declared.states.Day.TheVariants.{Open, Closed}
-use Rattle.day.specs.Outcomes.{told}
 use Rattle.day.specs.Book.{Book, opening, answer, next, Entry, after}
 use Rattle.day.specs.Days.{Since, SinceClosed, places_of}
 
@@ -22,8 +20,8 @@ SinceDay l past (Open day) t = Since l past day t
 SinceDay l past (Closed day) t = SinceClosed l past day t
 
 -- what becomes of a call by the book: it is not made where the day is closed, and else answered
-abbrev pub outcome_by : {C : Type 0} → Counts → Book C → Call C → Outcome
-outcome_by places m c = cond m.closed NotMade (told (answer places m c))
+abbrev pub outcome_by : {C : Type 0} → Counts → Book C → Call C → Option Answer
+outcome_by places m c = cond m.closed None (Some (answer places m c))
 
 -- the book after a call of a list
 abbrev pub moved : {C : Type 0} → Counts → Book C → Call C → Book C
@@ -55,11 +53,11 @@ abbrev pub noted_if_made : {C : Type 0} → List (Entry C) → Book C → Tables
 noted_if_made past m t c = cond m.closed past (past ++ record { places = places_of t; call = c; answered = answer (places_of t) m c } ∷ [])
 
 -- a call of a list keeps what the day tells: whatever its past was, the outcome is the book's, the tables keep their lengths, and the day then tells the past with this call if it was made
-pub record Moved {C : Type 0} (l : Limits) (past : List (Entry C)) (c : Call C) (t : Tables C) (o : Outcome) (day' : Day C) (t' : Tables C) : Type 0 where
+pub record Moved {C : Type 0} (l : Limits) (past : List (Entry C)) (c : Call C) (t : Tables C) (o : Option Answer) (day' : Day C) (t' : Tables C) : Type 0 where
   pub outcome : o ≡ outcome_by (places_of t) (after (opening l) past) c
   pub places : places_of t' ≡ places_of t
   pub tells : SinceDay l (noted_if_made past (after (opening l) past) t c) day' t'
 
 -- the same, of any past
-abbrev pub MovesOn : {C : Type 0} → Call C → Day C → Tables C → Outcome → Day C → Tables C → Type 0
+abbrev pub MovesOn : {C : Type 0} → Call C → Day C → Tables C → Option Answer → Day C → Tables C → Type 0
 MovesOn {C} c day t o day' t' = (l : Limits) (past : List (Entry C)) → SinceDay l past day t → Moved l past c t o day' t'

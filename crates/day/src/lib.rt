@@ -10,7 +10,7 @@ pub mod running;
 pub mod states;
 pub mod withdrawing;
 
-pub use calls::{Call, Outcome, Step};
+pub use calls::{Call, Step};
 pub use opening::open;
 pub use running::run;
 pub use states::{ClosedDay, Day, OpenDay};

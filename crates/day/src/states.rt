@@ -16,6 +16,7 @@ pub struct OpenDay<C> {
 }
 
 /// A day that takes no more bids.
+// Its fields are those of an open day: a state is a type of its own, so that a closed day has no call that takes a bid.
 #[derive(Drop)]
 pub struct ClosedDay<C> {
     pub(crate) limits: Limits,

@@ -1,6 +1,6 @@
 //! The form of a block, and the starts of a flexible bid.
 
-use bids::{BlockBid, FlexibleBid};
+use bids::{BlockBid, FlexibleBid, Profile};
 use market::Refusal;
 
 /// A block with these quantities in its three hours.
@@ -22,10 +22,8 @@ fn block(first: i32, second: i32, third: i32) -> BlockBid {
 
 /// The number and place of a refusal, or nothing where the form is kept.
 fn refused(form: Result<(), Refusal>) -> Option<(u8, u32)> {
-    match form {
-        Ok(_) => None,
-        Err(refusal) => Some((refusal.rule.number(), refusal.place)),
-    }
+    form.err()
+        .map(|refusal| (refusal.rule.number(), refusal.place))
 }
 
 #[test]

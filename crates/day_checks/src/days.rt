@@ -8,6 +8,7 @@ use bids::{BlockBid, FlexibleBid, HourlyBid};
 use day::{ClosedDay, OpenDay, open};
 use levels::Flat;
 use market::Refusal;
+use register::Tables;
 
 /// Opens a day, enters a bid and closes the day: such a day tells the two calls, both answered as the book answers
 /// them.
@@ -21,10 +22,12 @@ pub fn one_day(
 {
     let mut day: OpenDay<Flat> = open(0, 100)?;
     day.enter_hourly(hourly, blocks, flexible, bid)?;
-    match day.close(hourly, blocks, flexible) {
-        Ok(closed) => Ok(closed),
-        Err((_, refusal)) => Err(refusal),
-    }
+    let tables = Tables {
+        hourly,
+        blocks,
+        flexible,
+    };
+    day.close(tables).map_err(|(_, refusal)| refusal)
 }
 
 #[cfg(test)]
@@ -51,12 +54,10 @@ mod tests {
     #[test]
     fn an_hour_past_the_day_is_refused(rt: HostRuntime) -> Result<(), Fail> {
         let mut hourly = [bid(0, 0); 2];
-        match one_day(&mut hourly, &[], &[], bid(7, 24)) {
-            Ok(_) => Err(Fail::new("taken")),
-            Err(refusal) => {
-                assert_eq!(rt; refusal.place, 24);
-                Ok(())
-            },
-        }
+        let Err(refusal) = one_day(&mut hourly, &[], &[], bid(7, 24)) else {
+            return Err(Fail::new("taken"));
+        };
+        assert_eq!(rt; refusal.place, 24);
+        Ok(())
     }
 }

@@ -2,7 +2,6 @@
 use Rattle.std.proofs.Common.{◌≡◌, ℕ, ◌+◌, ◌*◌, ◌<◌, ◌≤◌, min, List, length, get_or, take, sum_by, ◌∙◌, arith}
 use native.Mathlib.Nat.{min-eq_left}
 use Rattle.merit.proofs.Hours.{sum_step}
-use Rattle.docket.specs.declared.hours.Offers.{Offers}
 
 -- one more is added, and the sum is not cut
 pub sum_more : {X : Type 0} (f : X → ℕ) (xs : List X) (i : ℕ) (x : X) → i < length xs → x ≡ get_or xs i x → (most a n r m : ℕ) → r ≡ min (a + n) m → a ≤ most * i → n ≤ most → most * (i + 1) ≤ m → a ≡ sum_by f (take i xs) → n ≡ f x → (r ≤ most * (i + 1)) × (r ≡ sum_by f (take (i + 1) xs))
@@ -10,6 +9,3 @@ sum_more f xs i x h is most a n r m cut few one fits ea en =
     let whole : a + n ≤ most * (i + 1) = omega arith in
     let plain : r ≡ a + n = cut ∙ min-eq_left (omega arith) in
     (omega arith, plain ∙ sum_step f xs i x h is a n ea en)
-
-pub same_offers : (a b c d e f : ℕ) → a ≡ b → c ≡ d → e ≡ f → ◌≡◌ {A = Offers} (record { count = a; bought = c; sold = e }) (record { count = b; bought = d; sold = f })
-same_offers a b c d e f p q r = λ i. record { count = p i; bought = q i; sold = r i }

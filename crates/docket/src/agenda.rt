@@ -1,13 +1,12 @@
 //! The calls of one day.
 
-ghost use Rattle.std.specs.Prelude.{◌≡◌, [], ◌∷◌, ◌++◌, OnOk};
-ghost use Rattle.day.specs.declared.calls.Outcome.TheVariants.{NotMade};
+ghost use Rattle.std.specs.Prelude.{◌≡◌, [], ◌∷◌, ◌++◌, OnOk, None};
 ghost use Rattle.docket.specs.Answers.{became, answered};
 
-use crate::answers::{Answer, Hindrance};
+use crate::answers::{Answer, Denial, Hindrance, answer_to};
 use crate::openings::Opening;
 use console::Failure;
-use day::{Call, Outcome, Step};
+use day::{Call, Step};
 use market::Refusal;
 use merit::BidCurve;
 use std::alloc::Global;
@@ -36,7 +35,8 @@ pub struct Question {
     pub subject: Subject,
 }
 
-/// The calls of one day: the line that opens it, the questions of the lines after that, and the steps for the day.
+/// The calls of one day: the line that opens it, the questions of the lines after that, and the steps for the day. The
+/// steps are a list of their own, which questions name by index, since `day::run` makes the calls of one slice of steps.
 #[derive(Drop)]
 pub struct Agenda {
     pub line: usize,
@@ -48,7 +48,10 @@ pub struct Agenda {
 impl Agenda {
     /// A day without calls, opened by a line.
     pub fn new(heap: Global, line: usize, opening: Opening) -> Agenda
-        ensures { (result.line ≡ line) × ((result.opening ≡ opening) × ((result.questions.items ≡ []) × (result.steps.items ≡ []))) }
+        ensures line { result.line ≡ line }
+        ensures opening { result.opening ≡ opening }
+        ensures questions { result.questions.items ≡ [] }
+        ensures steps { result.steps.items ≡ [] }
     {
         Agenda {
             line,
@@ -69,7 +72,7 @@ impl Agenda {
 
     /// Adds a call, as a step with its question.
     pub fn add_call(&mut self, line: usize, call: Call<BidCurve>) -> Result<(), Failure>
-        ensures { OnOk result (self.new.steps.items ≡ self.old.steps.items ++ (record { call = call; outcome = NotMade } ∷ [])) }
+        ensures { OnOk result (self.new.steps.items ≡ self.old.steps.items ++ (record { call = call; outcome = None } ∷ [])) }
     {
         let index = self.steps.len();
         let subject = match call {
@@ -77,7 +80,7 @@ impl Agenda {
             _ => Subject::Step(index),
         };
         self.ask(line, subject)?;
-        let outcome = Outcome::NotMade;
+        let outcome = None;
         self.steps.push(Step { call, outcome })?;
         Ok(())
     }
@@ -87,23 +90,20 @@ impl Agenda {
         ensures { result ≡ answered self.now.steps.items subject is_closed }
     {
         match subject {
-            Subject::RefusedOpening(refusal) => Answer::Refused(refusal),
-            Subject::RefusedCurve(_) if is_closed => Answer::NotAllowed(Hindrance::DayClosed),
-            Subject::RefusedCurve(refusal) => Answer::Refused(refusal),
-            Subject::Step(index) | Subject::Close(index) => Answer::of(self.outcome(index)),
-            Subject::Verdict if is_closed => Answer::NotAllowed(Hindrance::NotJudged),
-            Subject::Verdict => Answer::NotAllowed(Hindrance::DayOpen),
-            Subject::Settlement => Answer::NotAllowed(Hindrance::NotCleared),
+            Subject::RefusedOpening(refusal) => Err(Denial::Refused(refusal)),
+            Subject::RefusedCurve(_) if is_closed => Err(Denial::NotAllowed(Hindrance::DayClosed)),
+            Subject::RefusedCurve(refusal) => Err(Denial::Refused(refusal)),
+            Subject::Step(index) | Subject::Close(index) => answer_to(self.outcome(index)),
+            Subject::Verdict if is_closed => Err(Denial::NotAllowed(Hindrance::NotJudged)),
+            Subject::Verdict => Err(Denial::NotAllowed(Hindrance::DayOpen)),
+            Subject::Settlement => Err(Denial::NotAllowed(Hindrance::NotCleared)),
         }
     }
 
     /// What became of the call of the step at an index.
-    fn outcome(&self, index: usize) -> Outcome
+    fn outcome(&self, index: usize) -> Option<Result<(), Refusal>>
         ensures { result ≡ became self.now.steps.items index }
     {
-        match self.steps.get(index) {
-            Some(step) => step.outcome,
-            None => Outcome::NotMade,
-        }
+        self.steps.get(index).and_then(|step| step.outcome)
     }
 }

@@ -4,73 +4,49 @@ ghost use Rattle.std.specs.Prelude.{◌≡◌};
 ghost use Rattle.docket.specs.Answers.{told};
 
 use console::Told;
-use day::Outcome;
 use market::Refusal;
-use std::fmt;
+use thiserror::Error;
 
 /// Why a call was not made.
-#[derive(Clone, Copy)]
+#[derive(Clone, Copy, Debug, Error)]
 pub enum Hindrance {
     /// No day was opened yet.
+    #[error("no day was opened")]
     NoDay,
     /// The day takes bids, and no proposal.
+    #[error("the day is open, and is to be closed first")]
     DayOpen,
     /// The day takes no more bids.
+    #[error("the day is closed")]
     DayClosed,
     /// The day is not cleared, so it has no settlement lines.
+    #[error("the day is not cleared")]
     NotCleared,
     /// Proposals are not judged yet.
+    #[error("this program does not judge proposals yet")]
     NotJudged,
 }
 
-impl fmt::Display for Hindrance {
-    fn fmt<W: fmt::Write>(&self, f: &mut fmt::Formatter<W>) -> fmt::Result {
-        let words = match self {
-            Hindrance::NoDay => "no day was opened",
-            Hindrance::DayOpen => "the day is open, and is to be closed first",
-            Hindrance::DayClosed => "the day is closed",
-            Hindrance::NotCleared => "the day is not cleared",
-            Hindrance::NotJudged => "this program does not judge proposals yet",
-        };
-        write!(f, "{words}")
-    }
-}
-
-/// What a call is answered.
-#[derive(Clone, Copy)]
-pub enum Answer {
-    Done,
+/// Why a call did not succeed.
+#[derive(Clone, Copy, Debug, Error)]
+pub enum Denial {
+    /// It was made and refused.
+    #[error("refused {}", Told(*.0))]
     Refused(Refusal),
+    /// It was not made.
+    #[error("not allowed: {0}")]
     NotAllowed(Hindrance),
 }
 
-impl fmt::Display for Answer {
-    fn fmt<W: fmt::Write>(&self, f: &mut fmt::Formatter<W>) -> fmt::Result {
-        match self {
-            Answer::Done => write!(f, "ok"),
-            Answer::Refused(refusal) => {
-                let told = Told { refusal: *refusal };
-                write!(f, "refused {told}")
-            }
-            Answer::NotAllowed(hindrance) => write!(f, "not allowed: {hindrance}"),
-        }
-    }
-}
+/// What a call is answered.
+pub type Answer = Result<(), Denial>;
 
-impl Answer {
-    /// The answer to a call that a day was given.
-    pub fn of(outcome: Outcome) -> Answer
-        ensures { result ≡ told outcome }
-    {
-        match outcome {
-            Outcome::Done => Answer::Done,
-            Outcome::Refused(refusal) => Answer::Refused(refusal),
-            Outcome::NotMade => Answer::NotAllowed(Hindrance::DayClosed),
-        }
-    }
-
-    /// Whether the call succeeded.
-    pub fn is_done(self) -> bool {
-        matches!(self, Answer::Done)
+/// The answer to a call that a day was given.
+pub fn answer_to(outcome: Option<Result<(), Refusal>>) -> Answer
+    ensures { result ≡ told outcome }
+{
+    match outcome {
+        Some(answer) => answer.map_err(Denial::Refused),
+        None => Err(Denial::NotAllowed(Hindrance::DayClosed)),
     }
 }

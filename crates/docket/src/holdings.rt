@@ -3,39 +3,24 @@
 ghost use Rattle.std.specs.Prelude.{◌≡◌, ◌&&◌, ◌==◌};
 ghost use Rattle.bids.specs.Registers.{hourly as hourly_kind, block as block_kind, flexible as flexible_kind};
 ghost use Rattle.register.specs.Order.{tally};
+ghost use Rattle.register.specs.Views.{lists};
 
-use bids::{BlockBid, FlexibleBid, HourlyBid};
-use register::standing;
+use register::{Counts, Tables, standing};
 
-/// How many bids of each kind a participant has.
-#[derive(Clone, Copy)]
-pub struct Holding {
-    pub hourly: usize,
-    pub blocks: usize,
-    pub flexible: usize,
+/// What a participant has among bids.
+pub fn holding_of<C>(bids: Tables<C>, participant: u16) -> Counts
+    ensures { result ≡ record { hourly = tally hourly_kind participant (lists bids.entry).hourly; blocks = tally block_kind participant (lists bids.entry).blocks; flexible = tally flexible_kind participant (lists bids.entry).flexible } }
+{
+    Counts {
+        hourly: standing(bids.hourly, participant),
+        blocks: standing(bids.blocks, participant),
+        flexible: standing(bids.flexible, participant),
+    }
 }
 
-impl Holding {
-    /// What a participant has among bids.
-    pub fn of<C>(
-        hourly: &[HourlyBid<C>],
-        blocks: &[BlockBid],
-        flexible: &[FlexibleBid],
-        participant: u16,
-    ) -> Holding
-        ensures { result ≡ record { hourly = tally hourly_kind participant hourly.now; blocks = tally block_kind participant blocks.now; flexible = tally flexible_kind participant flexible.now } }
-    {
-        Holding {
-            hourly: standing(hourly, participant),
-            blocks: standing(blocks, participant),
-            flexible: standing(flexible, participant),
-        }
-    }
-
-    /// Whether there is no bid.
-    pub fn is_empty(self) -> bool
-        ensures { result ≡ (self.hourly == 0) && (self.blocks == 0 && self.flexible == 0) }
-    {
-        self.hourly == 0 && self.blocks == 0 && self.flexible == 0
-    }
+/// Whether there is no bid.
+pub fn has_none(counts: Counts) -> bool
+    ensures { result ≡ (counts.hourly == 0) && (counts.blocks == 0 && counts.flexible == 0) }
+{
+    counts.hourly == 0 && counts.blocks == 0 && counts.flexible == 0
 }

@@ -9,8 +9,8 @@ pub mod openings;
 pub mod tables;
 
 pub use agenda::{Agenda, Question, Subject};
-pub use answers::{Answer, Hindrance};
-pub use holdings::Holding;
+pub use answers::{Answer, Denial, Hindrance, answer_to};
+pub use holdings::{has_none, holding_of};
 pub use hours::Offers;
-pub use openings::{Opening, Places};
+pub use openings::Opening;
 pub use tables::{Evening, Tables};

@@ -12,6 +12,7 @@ use piles::{Cap, Sum};
 use std::alloc::{AllocError, Global};
 
 /// The tables of a day: its three registers, and the three lists of its clearing record, which wait for a clearing.
+// A start of the record is a byte, as a mark is: nothing is written there before a clearing is.
 #[derive(Drop)]
 pub struct Tables {
     pub hourly: Vec<HourlyBid<BidCurve>>,
@@ -25,7 +26,9 @@ pub struct Tables {
 impl Tables {
     /// Tables of the places that an opening names, in which nothing stands.
     pub fn new(heap: Global, opening: &Opening) -> Result<Tables, AllocError>
-        ensures { IfOk result (λ t. (vec_len t.hourly ≡ opening.now.tables.hourly) × (vec_len t.blocks ≡ opening.now.tables.blocks) × (vec_len t.flexible ≡ opening.now.tables.flexible)) }
+        ensures hourly { IfOk result (λ t. vec_len t.hourly ≡ opening.now.tables.hourly) }
+        ensures blocks { IfOk result (λ t. vec_len t.blocks ≡ opening.now.tables.blocks) }
+        ensures flexible { IfOk result (λ t. vec_len t.flexible ≡ opening.now.tables.flexible) }
     {
         let tables = opening.tables;
         let record = opening.record;
@@ -47,6 +50,7 @@ pub struct Evening {
     pub tables: Tables,
 }
 
+// One for each table, of a type of its own; what they share is `front`.
 impl Evening {
     /// The hourly bids that stand.
     pub fn hourly(&self) -> &[HourlyBid<BidCurve>]
@@ -74,12 +78,10 @@ impl Evening {
 fn front<T>(table: &[T], count: usize) -> &[T]
     ensures { result.now ≡ take count table.now }
 {
-    if count >= table.len() {
-        return table;
-    }
-    &table[0..count]
+    table.get(..count).unwrap_or(table)
 }
 
+// The blank rows stand one by one: each is used once, and a trait for them would only add three blocks round them.
 /// A row of the table of blocks in which no bid stands.
 const BLANK_BLOCK: BlockBid = BlockBid {
     number: 0,

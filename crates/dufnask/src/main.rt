@@ -1,26 +1,16 @@
 //! `dufnask`: what the curves of an hour come to.
 #![tactic(auto)]
 
-mod bench;
-mod failure;
 mod help;
-mod reading;
-mod report;
-mod sheet;
-mod words;
+mod wording;
 
-use failure::Failure;
+use console::{Failure, bench, finish, no_more, reading, report};
 use std::process::ExitCode;
 use std::{env, fs, io};
+use wording::{Meant, Worded};
 
 fn main(rt: HostRuntime) -> io::Result<ExitCode> {
-    match run(&rt) {
-        Ok(()) => Ok(ExitCode::SUCCESS),
-        Err(failure) => {
-            eprintln!(rt; "dufnask: {failure}")?;
-            Ok(ExitCode::FAILURE)
-        }
-    }
+    finish(&rt, "dufnask", run(&rt).map_err(Worded))
 }
 
 /// Does what the words of the command line ask for.
@@ -52,24 +42,16 @@ fn run(rt: &HostRuntime) -> Result<(), Failure> {
     }
 }
 
-/// Prints the report on the hour in a file, or on standard input.
+/// Prints the report on the hour in a file, or on standard input. Bytes that are no text are an error here, which
+/// `console::read_text` lets stand as U+FFFD.
 fn merit(rt: &HostRuntime, file: Option<String>) -> Result<(), Failure> {
     let heap = rt.alloc();
     let text = match file {
-        Some(path) => match fs::read_to_string(rt, path.as_str()) {
-            Ok(text) => text,
-            Err(error) => return Err(Failure::File(path, error)),
-        },
+        Some(path) => fs::read_to_string(rt, path.as_str()).map_err(|error| Failure::File(
+            path, error,
+        ))?,
         None => io::read_to_string(heap, rt.stdin())?,
     };
     let sheet = reading::read(heap, text.as_str())?;
-    report::print(rt, &sheet)
-}
-
-/// That a command has no further word.
-fn no_more(word: Option<String>) -> Result<(), Failure> {
-    match word {
-        Some(word) => Err(Failure::Excess(word)),
-        None => Ok(()),
-    }
+    report::print::<Meant>(rt, &sheet)
 }

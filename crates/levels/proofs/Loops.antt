@@ -1,6 +1,6 @@
 -- The steps of the loops over levels.
-use Rattle.std.proofs.Common.{◌≡◌, ℕ, suc, ◌+◌, ◌-◌, ◌<◌, ◌≤◌, max, true, false, List, [], ◌∷◌, ◌++◌, length, get_or, take, drop, set, replicate, nat_abs, Some, None, sym, refl, ap, ◌∙◌, arith}
-use Rattle.std.proofs.lemmas.List.{at_drop_more, at_drop_all, take_rest, take_more, take_all, set_at, append_assoc, length-take-le}
+use Rattle.std.proofs.Common.{◌≡◌, ℕ, ◌+◌, ◌-◌, ◌<◌, ◌≤◌, max, true, false, List, [], ◌∷◌, length, get_or, take, drop, nat_abs, Some, None, refl, ap, ◌∙◌, arith}
+use Rattle.std.proofs.lemmas.List.{at_drop_more, at_drop_all, take_rest}
 use Rattle.std.proofs.lemmas.Bool.{cond-true, cond-false, lt-ltb, le-ltb}
 use Rattle.levels.specs.declared.level.Level.{Level}
 use Rattle.levels.specs.Form.{bounded, follows, front_after, kept_front}
@@ -52,18 +52,3 @@ largest_step xs i m d l =
 
 pub largest_end : (xs : List Level) (i m : ℕ) → length xs ≤ i → max m (largest (drop i xs)) ≡ m
 largest_end xs i m l = let e : largest (drop i xs) ≡ 0 = at_drop_all largest xs i l in omega arith
-
--- ---- a table is filled from its front
-pub filled_step : (ls gs : List Level) (i : ℕ) → ls ≡ take i gs ++ replicate (64 - i) zero_level → i < length gs → length gs ≤ 64 → set ls i (get_or gs i zero_level) ≡ take (i + 1) gs ++ replicate (64 - (i + 1)) zero_level
-filled_step ls gs i e l u =
-    let n : 64 - i ≡ suc (64 - (i + 1)) = omega arith in
-    let long : length (take i gs) ≡ i = length-take-le i gs (omega arith) in
-    let rest : ls ≡ take i gs ++ (zero_level ∷ replicate (64 - (i + 1)) zero_level) = e ∙ ap (λ k. take i gs ++ replicate k zero_level) n in
-    let more = take_more gs i zero_level l in
-    ap (λ xs. set xs i (get_or gs i zero_level)) rest
-    ∙ set_at (take i gs) zero_level (replicate (64 - (i + 1)) zero_level) (get_or gs i zero_level) i long
-    ∙ sym (append_assoc (take i gs) (get_or gs i zero_level ∷ []) (replicate (64 - (i + 1)) zero_level))
-    ∙ ap (λ xs. xs ++ replicate (64 - (i + 1)) zero_level) (sym more)
-
-pub filled_end : (ls gs : List Level) (i : ℕ) → ls ≡ take i gs ++ replicate (64 - i) zero_level → i ≡ length gs → ls ≡ gs ++ replicate (64 - length gs) zero_level
-filled_end ls gs i e h = e ∙ ap (λ k. take k gs ++ replicate (64 - k) zero_level) h ∙ ap (λ xs. xs ++ replicate (64 - length gs) zero_level) (take_all (length gs) gs (omega arith))

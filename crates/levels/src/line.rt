@@ -62,7 +62,9 @@ impl ValuedCurve for Linear {}
 /// The quantity at a price on the straight line from one level to a later one, rounded to the nearest lot, halves
 /// upward. The quantity of the first level holds before it.
 fn between(from: Level, to: Level, price: u32) -> i32
-    requires { (bounded from ≡ true) × ((follows from to ≡ true) × (price < to.price)) }
+    requires from_bounded { bounded from ≡ true }
+    requires to_follows { follows from to ≡ true }
+    requires before_to { price < to.price }
     ensures { result ≡ between_of from to price }
 {
     let span = to.price - from.price;
@@ -74,7 +76,8 @@ fn between(from: Level, to: Level, price: u32) -> i32
 
 /// The whole number nearest to a fraction, halves upward: the floor of the fraction and one half.
 fn nearest(numerator: i64, denominator: u32) -> i64
-    requires { (0 < denominator) × (Moderate numerator) }
+    requires positive { 0 < denominator }
+    requires moderate { Moderate numerator }
     ensures value { result ≡ nearest_of numerator denominator }
     ensures nearest { Nearest numerator denominator result }
 {

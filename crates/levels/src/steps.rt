@@ -20,6 +20,7 @@ use curve::{PriceCurve, ValuedCurve};
 use market::{HIGHEST_PRICE, Limits, Refusal, Side};
 
 /// A curve that has the quantity of the last level priced at most the price, or of the first level below that.
+// Beside `Linear`, and not one type with a rule as its parameter: only `new` and `reach`, a line or two each, are the same.
 #[derive(Clone, Copy)]
 pub struct Stepped {
     pub table: LevelTable,
@@ -69,8 +70,12 @@ impl ValuedCurve for Stepped {
 }
 
 /// The greatest price within lawful limits at which steps buy a lot: just below the first level that buys fewer.
+// Asked, and not carried by a type: a curve and limits are any to every caller, and `worth` alone makes this call.
 fn greatest_buying(levels: &[Level], limits: Limits, lot: u32) -> Option<u32>
-    requires { (lawful limits ≡ true) × ((0 < lot) × ((formed levels.now ≡ true) × (0 < length levels.now))) }
+    requires are_lawful { lawful limits ≡ true }
+    requires counted { 0 < lot }
+    requires keeps { formed levels.now ≡ true }
+    requires any { 0 < length levels.now }
     ensures { WorthIs (steps_of levels.now) limits Buying lot result }
 {
     let [first, later @ ..] = levels else {
@@ -91,8 +96,12 @@ fn greatest_buying(levels: &[Level], limits: Limits, lot: u32) -> Option<u32>
 }
 
 /// The least price within lawful limits at which steps sell a lot: that of the first level that sells as many.
+// Beside `greatest_buying`: the sides look for a level that trades fewer and one that trades as many, and answer by other limits.
 fn least_selling(levels: &[Level], limits: Limits, lot: u32) -> Option<u32>
-    requires { (lawful limits ≡ true) × ((0 < lot) × ((formed levels.now ≡ true) × (0 < length levels.now))) }
+    requires are_lawful { lawful limits ≡ true }
+    requires counted { 0 < lot }
+    requires keeps { formed levels.now ≡ true }
+    requires any { 0 < length levels.now }
     ensures { WorthIs (steps_of levels.now) limits Selling lot result }
 {
     let [first, later @ ..] = levels else {

@@ -5,13 +5,11 @@ ghost use Rattle.levels.specs.Form.{kept_front, LongestFront};
 ghost use Rattle.levels.specs.Tables.{in_force_of, table_of, Made};
 
 use crate::level::Level;
+pub use market::BAD_COUNT;
 use market::{Refusal, Rule};
 
 /// The most levels that a curve has.
 pub const MOST_LEVELS: usize = 64;
-
-/// The place of a refusal for a count of levels that is not 1 to 64.
-pub const BAD_COUNT: u32 = 99;
 
 static NO_LEVELS: [Level; 1] = [Level {
     price: 0,
@@ -20,6 +18,7 @@ static NO_LEVELS: [Level; 1] = [Level {
 
 /// Levels by value. Any content has levels in force: the longest front of the first `count` that keeps the form, or
 /// the one level (0: 0).
+// A count beside an array, and no vector: a table is copied with its bid, any content of it is one, and the library has no heap.
 #[derive(Clone, Copy)]
 pub struct LevelTable {
     pub levels: [Level; 64],
@@ -73,9 +72,7 @@ fn filled(given: &[Level]) -> [Level; 64]
         price: 0,
         quantity: 0,
     }; 64];
-    for (i, level) in given.iter().enumerate() {
-        levels[i] = *level;
-    }
+    levels[..given.len()].copy_from_slice(given);
     levels
 }
 

@@ -6,7 +6,7 @@ pub mod refusals;
 pub mod sides;
 
 pub use limits::Limits;
-pub use refusals::{Refusal, Rule};
+pub use refusals::{BAD_COUNT, Refusal, Rule};
 pub use sides::Side;
 
 /// The highest price that a curve is asked for; a higher one is read as this. In kuruş per MWh.

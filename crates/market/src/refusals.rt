@@ -3,61 +3,64 @@
 ghost use Rattle.std.specs.Prelude.{◌≡◌};
 ghost use Rattle.market.specs.Numbers.{number};
 
+/// The place of a refusal for a count, a first hour or a window that is not allowed.
+pub const BAD_COUNT: u32 = 99;
+
 /// The rule that a refused call broke.
 #[derive(Clone, Copy, PartialEq, Eq, Debug)]
 pub enum Rule {
     /// The limits of a day are not a lowest price below a highest one of at most 10,000,000.
-    Limits,
+    Limits = 1,
     /// A bid's number or participant is out of bounds.
-    Identity,
+    Identity = 2,
     /// The form of a curve, a block or a flexible bid is broken.
-    Form,
+    Form = 3,
     /// A block's or flexible bid's price lies outside the limits.
-    Price,
+    Price = 4,
     /// The number stands already.
-    NumberStands,
+    NumberStands = 5,
     /// The participant has the most bids of that kind.
-    MostBids,
+    MostBids = 6,
     /// There is no such hour, or the participant has a bid in it.
-    Hour,
+    Hour = 7,
     /// The register is full.
-    RegisterFull,
+    RegisterFull = 8,
     /// The parent does not stand, or is of another participant or direction.
-    Parent,
+    Parent = 9,
     /// The family is too large.
-    Family,
+    Family = 10,
     /// The number does not stand.
-    NotStanding,
+    NotStanding = 11,
     /// A child of the block stands.
-    ChildStands,
+    ChildStands = 12,
     /// The reaches of the parts of a sum total above 1,000,000.
-    SumReach,
+    SumReach = 13,
     /// A register or the clearing record is not lawful.
-    Register,
+    Register = 14,
     /// A list of a proposal has the wrong length, or the record is too short.
-    ListLength,
+    ListLength = 20,
     /// A price of a proposal lies outside the limits.
-    ClearingPrice,
+    ClearingPrice = 21,
     /// A mark of a proposal is neither 0 nor 1.
-    Mark,
+    Mark = 22,
     /// A start of a proposal is not allowed.
-    Start,
+    Start = 23,
     /// A block is accepted and its parent is rejected.
-    RejectedParent,
+    RejectedParent = 24,
     /// A match lies outside its margin.
-    Margin,
+    Margin = 25,
     /// An hour does not balance.
-    Balance,
+    Balance = 26,
     /// A match breaks the rules of a cut.
-    Cut,
+    Cut = 27,
     /// A block is wrongly rejected.
-    WronglyRejected,
+    WronglyRejected = 28,
     /// A flexible bid is wrongly without a start.
-    WronglyUnstarted,
+    WronglyUnstarted = 29,
     /// There is no such hour to write lines for.
-    LinesHour,
+    LinesHour = 30,
     /// Too few lines are left.
-    LinesLeft,
+    LinesLeft = 31,
 }
 
 impl Rule {
@@ -65,34 +68,7 @@ impl Rule {
     pub fn number(self) -> u8
         ensures { result ≡ number self }
     {
-        match self {
-            Rule::Limits => 1,
-            Rule::Identity => 2,
-            Rule::Form => 3,
-            Rule::Price => 4,
-            Rule::NumberStands => 5,
-            Rule::MostBids => 6,
-            Rule::Hour => 7,
-            Rule::RegisterFull => 8,
-            Rule::Parent => 9,
-            Rule::Family => 10,
-            Rule::NotStanding => 11,
-            Rule::ChildStands => 12,
-            Rule::SumReach => 13,
-            Rule::Register => 14,
-            Rule::ListLength => 20,
-            Rule::ClearingPrice => 21,
-            Rule::Mark => 22,
-            Rule::Start => 23,
-            Rule::RejectedParent => 24,
-            Rule::Margin => 25,
-            Rule::Balance => 26,
-            Rule::Cut => 27,
-            Rule::WronglyRejected => 28,
-            Rule::WronglyUnstarted => 29,
-            Rule::LinesHour => 30,
-            Rule::LinesLeft => 31,
-        }
+        self as u8
     }
 }
 

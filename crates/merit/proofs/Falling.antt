@@ -1,5 +1,6 @@
 -- The totals and the margins of an hour go one way with the price.
-use Rattle.std.proofs.Common.{◌≡◌, ℕ, zero, suc, ◌+◌, ◌-◌, ◌≤◌, Bool, true, false, List, [], ◌∷◌, ℤ, pos, negsuc, ◌≤ℤ◌, sum_by, refl, ap, ⊎_elim, arith}
+use Rattle.std.proofs.Common.{◌≡◌, ℕ, zero, suc, ◌+◌, ◌-◌, ◌<◌, ◌≤◌, max, ◌≢◌, Bool, true, false, List, [], ◌∷◌, ℤ, pos, negsuc, ◌≤ℤ◌, ◌<ℤ◌, sum_by, refl, ap, ⊎_elim, arith}
+use Rattle.std.specs.Bool.{then_some}
 use Rattle.std.specs.Int.{int_max, int_min}
 use Rattle.std.proofs.lemmas.Int.{ints, clamps}
 use Rattle.std.proofs.lemmas.List.Sums.{sum_by-cons}
@@ -13,7 +14,7 @@ use Rattle.curve.specs.Margins.{counted, counted_below, margin_by, margin}
 use Rattle.curve.proofs.Bests.{more_bought, more_sold}
 use Rattle.curve.proofs.Parts.{counted_in, counted_out, counted_past, below_in, below_out}
 use Rattle.curve.proofs.Worths.{inside, inside_from, inside_to}
-use Rattle.merit.specs.Hours.{total, totals}
+use Rattle.merit.specs.Hours.{total, totals, NextChange, margins, Even, Balancing}
 use Rattle.merit.proofs.Hours.{same_totals}
 
 -- ---- sums of what is less
@@ -46,6 +47,14 @@ module _ {C : Type 0} (q : C → ℕ → ℤ) (falls : (c : C) → Falls (q c)) 
       let s1 = sold_rises p m from in
       let s2 = sold_rises m r to in
       same_totals _ _ _ _ (omega arith) (omega arith)
+
+  -- the totals are the same up to next and others there, or the same up to the highest price
+  pub changes : (limits : Limits) (p next : ℕ) → p ≤ next → next ≤ max p limits.highest → (p < next → totals q cs (next - 1) ≡ totals q cs p) → (next < limits.highest → totals q cs next ≢ totals q cs p) → (b : Bool) → (b ≡ true → totals q cs next ≢ totals q cs p) → (b ≡ false → totals q cs next ≡ totals q cs p) → NextChange (totals q cs) limits p (then_some b next)
+  changes limits p next from to before there true others same =
+      let above : p < next = ⊎_elim (λ l. l) (λ l. absurd (others refl (ap (totals q cs) (omega arith)))) (cases_lt p next) in
+      (above, omega arith, others refl, λ m lo hi. between p m (next - 1) lo (omega arith) (before above))
+  changes limits p next from to before there false others same =
+      λ n lo hi. ⊎_elim (λ l. absurd (there l (same refl))) (λ l. between p n next lo (omega arith) (same refl)) (cases_lt next limits.highest)
 
 -- ---- the margin by the quantities at, above and below a price
 least_by : (h a b h' a' b' : ℤ) → h' ≤ℤ h → int_max a' (pos 0) ≤ℤ int_max a (pos 0) → (margin_by h' a' b').least ≤ℤ (margin_by h a b).least
@@ -118,6 +127,24 @@ module _ {C : Type 0} (q : C → ℕ → ℤ) (falls : (c : C) → Falls (q c)) 
 
   pub least_top : total (λ c. (margin (q c) limits limits.highest).least) cs ≤ℤ pos 0
   least_top = total_none _ (λ c. margin_top (q c) limits) cs
+
+  -- the least totals above 0 below p and not at p, so no lower price balances the hour, and no price does where the most totals below 0 at p
+  module _ (p : ℕ) (from : limits.lowest ≤ p) (to : p ≤ limits.highest) (before : limits.lowest < p → pos 0 <ℤ (margins q limits cs (p - 1)).least) (there : (margins q limits cs p).least ≤ℤ pos 0) where
+    none_below : (n : ℕ) → within limits n ≡ true → n < p → Even (margins q limits cs n) → ⊥
+    none_below n i under even =
+        let low = inside_from limits n i in
+        let more = least_falls n (p - 1) low (omega arith) (omega arith) in
+        let short = before (omega arith) in
+        let least = even.0 in
+        absurd (omega (arith, ints))
+
+    pub balances : (b : Bool) → (b ≡ true → pos 0 ≤ℤ (margins q limits cs p).most) → (b ≡ false → (margins q limits cs p).most <ℤ pos 0) → Balancing (margins q limits cs) limits (then_some b p)
+    balances true enough fewer = (inside limits p from to, (there, enough refl), none_below)
+    balances false enough fewer = λ n i even.
+        ⊎_elim
+        (λ l. none_below n i l even)
+        (λ l. let less = most_falls p n from l (inside_to limits n i) in let sells = fewer refl in let most = even.1 in absurd (omega (arith, ints)))
+        (cases_lt n p)
 
 -- ---- no margin is upside down
 ordered_by : (h a b : ℤ) → int_max a (pos 0) ≤ℤ int_max h (pos 0) → int_min h (pos 0) ≤ℤ int_min b (pos 0) → (margin_by h a b).least ≤ℤ (margin_by h a b).most

@@ -5,7 +5,6 @@ use Rattle.std.proofs.lemmas.List.{take_more}
 use Rattle.std.proofs.lemmas.Int.{ints}
 use Rattle.std.proofs.lemmas.List.Sums.{sum_by_more}
 use Rattle.merit.specs.declared.hour.Totals.{Totals}
-use Rattle.merit.specs.declared.hour.TotalRange.{TotalRange}
 use Rattle.market.specs.declared.limits.Limits.{Limits}
 use Rattle.curve.specs.Gains.{gain}
 use Rattle.merit.specs.Hours.{total, gains}
@@ -28,12 +27,9 @@ module _ {X : Type 0} (f : X → ℤ) where
       let v : z ≡ f (get_or xs i x) = ez ∙ ap f is in
       omega (arith, ints)
 
--- ---- pairs of sums
+-- ---- a pair of sums
 pub same_totals : (a b c d : ℕ) → a ≡ b → c ≡ d → ◌≡◌ {A = Totals} (record { bought = a; sold = c }) (record { bought = b; sold = d })
 same_totals a b c d e h = λ i. record { bought = e i; sold = h i }
-
-pub same_range : (a b c d : ℤ) → a ≡ b → c ≡ d → ◌≡◌ {A = TotalRange} (record { least = a; most = c }) (record { least = b; most = d })
-same_range a b c d e h = λ i. record { least = e i; most = h i }
 
 -- ---- gains of curves and their matches
 module _ {C : Type 0} (q : C → ℕ → ℤ) (limits : Limits) where

@@ -32,9 +32,6 @@ pub record Sofar {X : Type 0} (r : X → LotRange) (xs : List X) (i : ℕ) (ms :
   pub enough : Even (ranges r xs) → (pos 0 ≤ℤ missing) × ((missing +ℤ total (λ x. (r x).least) (drop i xs)) ≤ℤ total (λ x. (r x).most) (drop i xs))
 
 module _ {X : Type 0} (r : X → LotRange) (upright : (x : X) → (r x).least ≤ℤ (r x).most) (xs : List X) where
-  pub none_yet : (missing : ℤ) → missing ≡ neg_ℤ (total (λ x. (r x).least) xs) → Sofar r xs 0 [] missing
-  none_yet missing e = record { matched = tt; balance = omega (arith, ints); handed = ap (λ z. handed_out r z xs) (sym e); enough = λ even. let l = even.0 in let m = even.1 in (omega (arith, ints), omega (arith, ints)) }
-
   module _ (i : ℕ) (x : X) (lt : i < length xs) (is : x ≡ get_or xs i x) where
     left : (f : X → ℤ) → total f (drop i xs) ≡ f x +ℤ total f (drop (i + 1) xs)
     left f = ap (total f) (drop_more xs i x lt) ∙ ap (λ y. f y +ℤ total f (drop (i + 1) xs)) (sym is)

@@ -18,6 +18,8 @@ pub enum Part {
     Flat(i32),
 }
 
+// A `TryFrom` is no plainer than `make`, here and below: what it promises would stand in a ghost member and in no clause, and
+// `draft.make()?` would read `BidCurve::try_from(&draft)?`.
 impl Part {
     /// The curve that is written, or its refusal.
     pub fn make(&self) -> Result<LevelCurve, Refusal>

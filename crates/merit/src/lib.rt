@@ -5,7 +5,4 @@ pub mod draft;
 pub mod hour;
 
 pub use draft::{BidCurve, Draft, Part};
-pub use hour::{
-    TotalRange, Totals, balancing_price, matches, next_change, total_gain, total_margin, totals_at,
-    traded,
-};
+pub use hour::{Hour, TotalRange, Totals, traded};

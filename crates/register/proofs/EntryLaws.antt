@@ -9,12 +9,12 @@ use Rattle.market.specs.declared.refusals.Rule.TheVariants as rules
 use Rattle.bids.specs.Kinds.{Kind}
 use Rattle.bids.specs.Registers.{hourly, block, flexible}
 use Rattle.bids.specs.Checks.{broken, first_of}
-use Rattle.bids.specs.Blocks.{block_form}
-use Rattle.bids.specs.Flexibles.{flexible_form}
+use Rattle.bids.specs.Blocks.{block_form, block_profile}
+use Rattle.bids.specs.Flexibles.{flexible_form, flexible_profile}
 use Rattle.bids.specs.declared.rows.HourlyBid.{HourlyBid}
 use Rattle.bids.specs.declared.rows.BlockBid.{BlockBid}
 use Rattle.bids.specs.declared.rows.FlexibleBid.{FlexibleBid}
-use Rattle.bids.proofs.Checks.{passed, block_formed, flexible_formed}
+use Rattle.bids.proofs.Checks.{passed, form_passed}
 use Rattle.register.specs.Order.{each, known, stands, tally, entered, without, ordered}
 use Rattle.register.specs.Hours.{hour_taken, hours_kept}
 use Rattle.register.specs.Families.{parent_kept, may_join, child_stands, families_kept}
@@ -92,7 +92,7 @@ block_enters l room xs b h g =
     let v = unbroken (not (may_join xs b)) _ _ [] u.1 in
     let o = enters_ordered block xs b a.0 p.0 s.0 in
     and_from _ _ o.0 (and_from _ _
-    (each_entered block (block_alone l) b xs (alone _ _ (block_formed b q.0) (within_limits l b.price b.number r.0)) d.0)
+    (each_entered block (block_alone l) b xs (alone _ _ (form_passed (block_profile b) q.0) (within_limits l b.price b.number r.0)) d.0)
     (families_entered b xs d.1 o.1 (not-false _ u.0) (not-false _ v.0)))
 
 pub block_leaves : (l : Limits) (n : ℕ) (xs : List BlockBid) → blocks_kept l xs ≡ true → first_of (withdraw_block xs n) ≡ Ok tt → blocks_kept l (without block n xs) ≡ true
@@ -113,7 +113,7 @@ flexible_enters l room xs b h g =
     let r = passed (price_rule l b.price b.number) rest q.1 in
     let s = passed (fresh_rules flexible xs b) (room_rule flexible room xs b) r.1 in
     and_from _ _ (enters_ordered flexible xs b a.0 p.0 s.0).0
-    (each_entered flexible (flexible_alone l) b xs (alone _ _ (flexible_formed b q.0) (within_limits l b.price b.number r.0)) a.1)
+    (each_entered flexible (flexible_alone l) b xs (alone _ _ (form_passed (flexible_profile b) q.0) (within_limits l b.price b.number r.0)) a.1)
 
 pub flexible_leaves : (l : Limits) (n : ℕ) (xs : List FlexibleBid) → flexible_kept l xs ≡ true → flexible_kept l (without flexible n xs) ≡ true
 flexible_leaves l n xs h =

@@ -1,35 +1,20 @@
 -- Blocks whose families were found right so far, with a count of the blocks on each lower level of each family.
-use Rattle.std.proofs.Common.{◌≡◌, ℕ, zero, suc, ◌+◌, ◌-◌, ◌*◌, ◌<◌, ◌≤◌, Bool, true, false, cond, ◌&&◌, eqb, leb, ◌≢◌, List, [], ◌∷◌, ◌++◌, length, get_or, take, drop, set, replicate, is_some, Some, None, Option, sym, refl, ap, ◌∙◌, subst, inl, inr, arith, length-set, take_all, get_or-set_other, get_or-set_same}
+use Rattle.std.proofs.Common.{◌≡◌, ℕ, ◌+◌, ◌-◌, ◌*◌, ◌<◌, ◌≤◌, Bool, true, false, cond, ◌&&◌, eqb, leb, ◌≢◌, List, [], ◌∷◌, length, get_or, take, drop, set, replicate, is_some, Some, None, Option, sym, refl, ap, ◌∙◌, subst, inl, inr, arith, length-set, take_all, get_or-set_other, get_or-set_same}
 use lib.ListN.{length-replicate, get_or-replicate}
-use Rattle.std.proofs.lemmas.List.{at_drop_all, take_more}
+use Rattle.std.proofs.lemmas.List.{at_drop_all}
 use Rattle.std.proofs.lemmas.Bool.{false≢true, and_parts, and_from, and_left, and_right, lt-leb, le-leb, eqb-true, eq-eqb, ne_eqb, cases_Bool, cases_eq, cases_lt}
 use Rattle.std.proofs.lemmas.Bool.Decides.{nat_tests}
 use Rattle.bids.specs.declared.rows.BlockBid.{BlockBid}
-use Rattle.bids.specs.Registers.{block}
 use Rattle.register.specs.Order.{each}
 use Rattle.register.specs.Families.{rank, is_rank, level_count, parent_kept, family_fits, family_kept, families_kept}
 use Rattle.register.specs.declared.families.Rank.{Rank}
-use Rattle.register.proofs.Steps.{next_is}
-use Rattle.register.proofs.Counted.{each_stop}
+use Rattle.register.proofs.Each.{next_of, each_stop}
+use Rattle.register.proofs.Tallies.{count_more, count_front}
 use Rattle.register.proofs.FamiliesRanks.{rank_bound}
 
--- of a front there are at most as many on a level as of all
-pub level_append : (all : List BlockBid) (l h : ℕ) (xs ys : List BlockBid) → level_count all l h (xs ++ ys) ≡ level_count all l h xs + level_count all l h ys
-level_append all l h [] ys = omega arith
-level_append all l h (x ∷ xs) ys = let r = level_append all l h xs ys in omega (arith, r)
-
-pub level_front : (all : List BlockBid) (l h : ℕ) (xs : List BlockBid) (i : ℕ) → level_count all l h (take i xs) ≤ level_count all l h xs
-level_front all l h [] zero = omega arith
-level_front all l h [] (suc i) = omega arith
-level_front all l h (x ∷ xs) zero = omega arith
-level_front all l h (x ∷ xs) (suc i) = let r = level_front all l h xs i in omega (arith, r)
-
-pub level_next : (all : List BlockBid) (l h : ℕ) (xs : List BlockBid) (i : ℕ) (x : BlockBid) → i < length xs → x ≡ get_or xs i x → level_count all l h (take (i + 1) xs) ≡ cond (is_rank l h (rank all x)) 1 0 + level_count all l h (take i xs)
-level_next all l h xs i x b e =
-    let t = ap (level_count all l h) (take_more xs i x b ∙ ap (λ y. take i xs ++ y ∷ []) (sym e)) in
-    let a = level_append all l h (take i xs) (x ∷ []) in
-    let z : level_count all l h (x ∷ []) ≡ cond (is_rank l h (rank all x)) 1 0 + 0 = refl in
-    omega (arith, t, a, z)
+-- a block on the level l below the head of the number h
+abbrev at_rank : List BlockBid → ℕ → ℕ → BlockBid → Bool
+at_rank all l h x = is_rank l h (rank all x)
 
 -- the places of a family's two counts
 place_first : (v g h : ℕ) → 0 < v → v ≤ 2 → eqb (2 * g + v - 1) (2 * h) ≡ (eqb v 1 && eqb g h)
@@ -129,20 +114,14 @@ module _ (all : List BlockBid) (i : ℕ) (counts : List ℕ) (s : Tallied all i 
 
   module _ (x : BlockBid) (l : i < length all) (e : x ≡ get_or all i x) where
     next : drop i all ≡ x ∷ drop (i + 1) all
-    next = next_is block all i x l e
-
-    pub stop_parent : false ≡ parent_kept all x → false ≡ families_kept all
-    stop_parent h = sym (and_left _ _ (each_stop (parent_kept all) all i x l e (sym h)))
-
-    pub stop_rank : None ≡ rank all x → false ≡ families_kept all
-    stop_rank h = sym (and_right _ _ (each_stop (family_kept all) all i x l e (ap (kept_by all) (sym h))))
+    next = next_of all i x l e
 
     module _ (r : Rank) (told : Some r ≡ rank all x) where
       is : rank all x ≡ Some r
       is = sym told
 
       more : (m h : ℕ) → level_count all m h (take (i + 1) all) ≡ cond (eqb r.level m && eqb r.head h) 1 0 + level_count all m h (take i all)
-      more m h = level_next all m h all i x l e ∙ ap (λ o. cond (is_rank m h o) 1 0 + level_count all m h (take i all)) is
+      more m h = count_more (at_rank all m h) all i x l e ∙ ap (λ o. cond (is_rank m h o) 1 0 + level_count all m h (take i all)) is
 
       stop_fits : family_fits all r.head ≡ false → false ≡ families_kept all
       stop_fits h = sym (and_right _ _ (each_stop (family_kept all) all i x l e (ap (kept_by all) is ∙ h)))
@@ -226,12 +205,12 @@ module _ (all : List BlockBid) (i : ℕ) (counts : List ℕ) (s : Tallied all i 
             elim (cases_eq r.level 1) as (λ _. false ≡ families_kept all) [
               | inl v ↦
                   let p : 2 * r.head + r.level - 1 ≡ 2 * r.head = omega arith in let z = ap (λ j. get_or counts j 0) p in
-                  let f = s.first r.head small in let d = more 1 r.head in let u = level_front all 1 r.head all (i + 1) in
+                  let f = s.first r.head small in let d = more 1 r.head in let u = count_front (at_rank all 1 r.head) all (i + 1) in
                   let o : ◌≡◌ {A = ℕ} (cond (eqb r.level 1 && eqb r.head r.head) 1 0) 1 = ap (λ t. cond t 1 0) (and_from _ _ (eq-eqb _ _ v) (eq-eqb r.head r.head refl)) in
                   stop_fits (breaks_first all r.head (omega arith))
               | inr v ↦
                   let p : 2 * r.head + r.level - 1 ≡ 2 * r.head + 1 = omega arith in let z = ap (λ j. get_or counts j 0) p in
-                  let f = s.second r.head small in let d = more 2 r.head in let u = level_front all 2 r.head all (i + 1) in
+                  let f = s.second r.head small in let d = more 2 r.head in let u = count_front (at_rank all 2 r.head) all (i + 1) in
                   let w : r.level ≡ 2 = omega arith in
                   let o : ◌≡◌ {A = ℕ} (cond (eqb r.level 2 && eqb r.head r.head) 1 0) 1 = ap (λ t. cond t 1 0) (and_from _ _ (eq-eqb _ _ w) (eq-eqb r.head r.head refl)) in
                   stop_fits (breaks_second all r.head (omega arith))
@@ -241,7 +220,7 @@ module _ (all : List BlockBid) (i : ℕ) (counts : List ℕ) (s : Tallied all i 
         pub stop_few : 5 ≤ get_or counts (2 * r.head) 0 + get_or counts (2 * r.head + 1) 0 → false ≡ families_kept all
         stop_few a =
             let m = most in
-            let f = s.first r.head small in let d = more 1 r.head in let u = level_front all 1 r.head all (i + 1) in
-            let f2 = s.second r.head small in let d2 = more 2 r.head in let u2 = level_front all 2 r.head all (i + 1) in
+            let f = s.first r.head small in let d = more 1 r.head in let u = count_front (at_rank all 1 r.head) all (i + 1) in
+            let f2 = s.second r.head small in let d2 = more 2 r.head in let u2 = count_front (at_rank all 2 r.head) all (i + 1) in
             let o = one_below r.level r.head some most in
             stop_fits (breaks_whole all r.head (omega arith))

@@ -1,13 +1,12 @@
 -- The rank of a block, step by step upwards, and what it says of the block's family.
-use Rattle.std.proofs.Common.{◌≡◌, ℕ, zero, suc, ◌+◌, ◌<◌, ◌≤◌, Bool, true, false, cond, ◌&&◌, ◌||◌, eqb, ◌⊎◌, List, [], length, get_or, drop, is_some, Some, None, Option, sym, refl, ap, ◌∙◌, inl, inr, arith}
-use Rattle.std.proofs.lemmas.List.{at_drop_more}
-use Rattle.std.proofs.lemmas.Bool.{false≢true, and_from, and_left, and_right, or_left, eq-eqb, ne_eqb}
+use Rattle.std.proofs.Common.{◌≡◌, ℕ, zero, suc, ◌+◌, ◌≤◌, Bool, true, false, ◌&&◌, eqb, ◌⊎◌, List, [], is_some, Some, None, Option, sym, refl, ap, ◌∙◌, inl, inr, arith}
+use Rattle.std.proofs.lemmas.Bool.{false≢true, eq-eqb, ne_eqb}
 use Rattle.bids.specs.declared.rows.BlockBid.{BlockBid}
 use Rattle.bids.specs.Blocks.{block_quantity}
 use Rattle.bids.specs.Quantities.{one_side}
 use Rattle.bids.specs.Registers.{block}
 use Rattle.register.specs.Order.{standing_as}
-use Rattle.register.specs.Families.{rank, rank_from, is_rank, level_count, parent_kept, parent_fits, names_parent, child_stands}
+use Rattle.register.specs.Families.{rank_from, parent_kept, parent_fits, names_parent}
 use Rattle.register.specs.declared.families.Rank.{Rank}
 
 -- what a read past the end would give
@@ -38,10 +37,6 @@ rank_gone (suc n) xs l b p e s = ap (λ o. from_parent n xs l b o) e ∙ ap (λ 
 -- any other has the rank of its parent, seen from one level lower
 pub rank_up : (n : ℕ) (xs : List BlockBid) (l : ℕ) (b : BlockBid) (p : ℕ) (y : BlockBid) → b.parent ≡ Some p → standing_as block p xs ≡ Some y → rank_from (suc n) xs l b ≡ rank_from n xs (l + 1) y
 rank_up n xs l b p y e s = ap (λ o. from_parent n xs l b o) e ∙ ap (λ o. from_found n xs l o) s
-
--- a block that names no parent keeps the rule of parents
-pub kept_alone : (xs : List BlockBid) (b : BlockBid) → b.parent ≡ None → parent_kept xs b ≡ true
-kept_alone xs b e = rw e
 
 -- whether the rule is kept, by what the block names as its parent, and by what stands there
 abbrev pub kept_found : BlockBid → Option BlockBid → Bool
@@ -75,33 +70,6 @@ names_some n b p e = ap (names_from n) e
 pub names_none : (n : ℕ) (b : BlockBid) → b.parent ≡ None → names_parent n b ≡ false
 names_none n b e = ap (names_from n) e
 
--- a child among the blocks that are left, where the next of them is b
-pub child_more : (n : ℕ) (xs : List BlockBid) (i : ℕ) (d : BlockBid) → i < length xs → child_stands n (drop i xs) ≡ (names_parent n (get_or xs i d) || child_stands n (drop (i + 1) xs))
-child_more n xs i d l = at_drop_more (child_stands n) xs i d l
-
-pub child_here : (n : ℕ) (xs : List BlockBid) (i : ℕ) (d : BlockBid) → i < length xs → names_parent n (get_or xs i d) ≡ true → child_stands n (drop i xs) ≡ true
-child_here n xs i d l h = child_more n xs i d l ∙ or_left _ _ h
-
-pub child_past : (n : ℕ) (xs : List BlockBid) (i : ℕ) (d : BlockBid) → i < length xs → names_parent n (get_or xs i d) ≡ false → child_stands n (drop i xs) ≡ child_stands n (drop (i + 1) xs)
-child_past n xs i d l h = child_more n xs i d l ∙ ap (λ t. t || child_stands n (drop (i + 1) xs)) h
-
--- the rank of a block by its level and its head
-pub rank_is : (l h : ℕ) (o : Option Rank) (r : Rank) → o ≡ Some r → r.level ≡ l → r.head ≡ h → is_rank l h o ≡ true
-rank_is l h o r e a b = ap (is_rank l h) e ∙ and_from _ _ (eq-eqb _ _ a) (eq-eqb _ _ b)
-
-pub rank_no_level : (l h : ℕ) (o : Option Rank) (r : Rank) → o ≡ Some r → (r.level ≡ l → ⊥) → is_rank l h o ≡ false
-rank_no_level l h o r e a = ap (is_rank l h) e ∙ and_left _ _ (ne_eqb _ _ a)
-
-pub rank_no_head : (l h : ℕ) (o : Option Rank) (r : Rank) → o ≡ Some r → (r.head ≡ h → ⊥) → is_rank l h o ≡ false
-rank_no_head l h o r e a = ap (is_rank l h) e ∙ and_right _ _ (ne_eqb _ _ a)
-
--- how many are on a level among the blocks that are left
-pub level_here : (all : List BlockBid) (l h : ℕ) (xs : List BlockBid) (i : ℕ) (d : BlockBid) → i < length xs → is_rank l h (rank all (get_or xs i d)) ≡ true → level_count all l h (drop i xs) ≡ 1 + level_count all l h (drop (i + 1) xs)
-level_here all l h xs i d b e = at_drop_more (level_count all l h) xs i d b ∙ ap (λ t. cond t 1 0 + level_count all l h (drop (i + 1) xs)) e
-
-pub level_past : (all : List BlockBid) (l h : ℕ) (xs : List BlockBid) (i : ℕ) (d : BlockBid) → i < length xs → is_rank l h (rank all (get_or xs i d)) ≡ false → level_count all l h (drop i xs) ≡ 0 + level_count all l h (drop (i + 1) xs)
-level_past all l h xs i d b e = at_drop_more (level_count all l h) xs i d b ∙ ap (λ t. cond t 1 0 + level_count all l h (drop (i + 1) xs)) e
-
 -- something or nothing
 pub cases_some : {X : Type 0} (o : Option X) → (o ≡ None) ⊎ ((x : X) × (o ≡ Some x))
 cases_some None = inl refl
@@ -110,14 +78,10 @@ cases_some (Some x) = inr (x, refl)
 pub some_not_none : {X : Type 0} (o : Option X) (x : X) → o ≡ None → o ≡ Some x → ⊥
 some_not_none o x a b = false≢true (ap is_some (sym a ∙ b))
 
--- the level and the head of a rank
+-- the level of a rank
 abbrev pub level_in : Option Rank → ℕ
 level_in None = 0
 level_in (Some r) = r.level
-
-abbrev pub head_in : Option Rank → ℕ
-head_in None = 0
-head_in (Some r) = r.head
 
 -- a level is at most as far below as there are parents to ask
 pub rank_bound : (n : ℕ) (xs : List BlockBid) (l : ℕ) (b : BlockBid) (r : Rank) → rank_from n xs l b ≡ Some r → r.level ≤ l + n

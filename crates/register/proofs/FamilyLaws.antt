@@ -1,7 +1,7 @@
 -- What keeps the families of blocks right: a block that may join is entered, and a block without child is withdrawn.
 use Rattle.std.proofs.Common.{◌≡◌, ℕ, zero, suc, ◌+◌, ◌<◌, ◌≤◌, Bool, true, false, cond, ◌&&◌, ◌||◌, eqb, ltb, leb, List, [], ◌∷◌, is_some, Some, None, Option, sym, refl, ap, ◌∙◌, subst, inl, inr, arith}
 use Rattle.std.specs.List.{AllByRecursion}
-use Rattle.std.proofs.lemmas.Bool.{false≢true, and_parts, and_from, or_cases, or_parts, leb-true, ltb-true, eqb-true, eqb-false, ne_eqb, cond-true, cond-false, cond_both, cases_Bool, cases_eq, cases_lt}
+use Rattle.std.proofs.lemmas.Bool.{false≢true, and_parts, and_from, or_cases, or_parts, lt-leb, leb-true, ltb-true, eqb-true, eqb-false, ne_eqb, cond-true, cond-false, cond_both, cases_Bool, cases_eq, cases_lt}
 use Rattle.std.proofs.ByRecursion.{All-get_or, All-weaker}
 use Rattle.bids.specs.Kinds.{Kind}
 use Rattle.bids.specs.declared.rows.BlockBid.{BlockBid}
@@ -11,7 +11,8 @@ use Rattle.register.specs.Families.{rank, rank_from, is_rank, level_count, paren
 use Rattle.register.specs.Ancestors.{ancestor, NoOwnAncestor}
 use Rattle.register.specs.declared.families.Rank.{Rank}
 use Rattle.register.proofs.Laws.{each_all, all_each, all_entered, all_without}
-use Rattle.register.proofs.FamiliesRanks.{cases_some, some_not_none, kept_parent, kept_found, rank_head, rank_low, rank_gone, rank_up, kept_gone, names_some, names_none}
+use Rattle.register.proofs.Tallies.{count_cons, count_entered, count_without}
+use Rattle.register.proofs.FamiliesRanks.{cases_some, some_not_none, kept_parent, kept_found, rank_head, rank_low, rank_gone, rank_up, rank_bound, kept_gone, names_some, names_none}
 use Rattle.register.proofs.FamiliesCounted.{ranked, kept_by, kept_each, fits_from, at_most_one, none_at_top, none_elsewhere}
 
 -- two facts of each
@@ -91,7 +92,9 @@ module _ (n : ℕ) (xs ys : List BlockBid) (a : Alike n xs ys) where
   levels_alike l h (x ∷ zs) c =
       let r = levels_alike l h zs c.1 in
       let q = ap (λ o. cond (is_rank l h o) 1 0 + level_count ys l h zs) (rank_alike x c.0) in
-      omega (arith, r, q)
+      let a = count_cons (λ z. is_rank l h (rank ys z)) x zs in
+      let b = count_cons (λ z. is_rank l h (rank xs z)) x zs in
+      omega (arith, r, q, a, b)
 
   pub level_alike : (l h : ℕ) → level_count ys l h xs ≡ level_count xs l h xs
   level_alike l h = levels_alike l h xs a.no_child
@@ -115,9 +118,10 @@ level_some : (all : List BlockBid) (l h : ℕ) (xs : List BlockBid) → each (fa
 level_some all l h [] a b = absurd (omega arith)
 level_some all l h (x ∷ xs) a b =
     let q = and_parts (family_kept all x) (each (family_kept all) xs) a in
+    let c = count_cons (λ y. is_rank l h (rank all y)) x xs in
     elim (cases_Bool (is_rank l h (rank all x))) as (λ _. family_fits all h ≡ true) [
       | inl e ↦ kept_fits all l h (rank all x) q.0 e
-      | inr e ↦ let t = ap (λ v. cond v 1 0 + level_count all l h xs) e in level_some all l h xs q.1 (omega (arith, t))
+      | inr e ↦ let t = ap (λ v. cond v 1 0 + level_count all l h xs) e in level_some all l h xs q.1 (omega (arith, c, t))
     ]
 
 pub families_means : (xs : List BlockBid) → families_kept xs ≡ true → Families xs
@@ -147,19 +151,6 @@ fits_first xs h e =
     let q = and_parts (leb (level_count xs 2 h xs) 3) (leb (level_count xs 1 h xs + level_count xs 2 h xs) 5) p.1 in
     (leb-true _ _ p.0, leb-true _ _ q.0, leb-true _ _ q.1)
 
--- a level with one entered, and with one withdrawn
-level_entered : (all : List BlockBid) (l h : ℕ) (b : BlockBid) (xs : List BlockBid) → level_count all l h (entered block b xs) ≡ cond (is_rank l h (rank all b)) 1 0 + level_count all l h xs
-level_entered all l h b [] = refl
-level_entered all l h b (x ∷ xs) =
-    let r = level_entered all l h b xs in
-    cond_both (ltb x.number b.number) (x ∷ entered block b xs) (b ∷ x ∷ xs) (λ ys. level_count all l h ys ≡ cond (is_rank l h (rank all b)) 1 0 + level_count all l h (x ∷ xs)) (λ e. omega (arith, r)) (λ e. refl)
-
-level_without : (all : List BlockBid) (l h n : ℕ) (xs : List BlockBid) → level_count all l h (without block n xs) ≤ level_count all l h xs
-level_without all l h n [] = omega arith
-level_without all l h n (x ∷ xs) =
-    let r = level_without all l h n xs in
-    cond_both (eqb x.number n) xs (x ∷ without block n xs) (λ ys. level_count all l h ys ≤ level_count all l h (x ∷ xs)) (λ e. omega arith) (λ e. omega (arith, r))
-
 -- no child stands, in words
 no_child_all : (n : ℕ) (xs : List BlockBid) → child_stands n xs ≡ false → AllByRecursion (λ x. names_parent n x ≡ false) xs
 no_child_all n [] h = tt
@@ -174,7 +165,7 @@ families_without n xs k c =
       ranks = all_without block _ n xs (All-weaker (λ x. (names_parent n x ≡ false) × (ranked xs x ≡ true)) (λ x. ranked (without block n xs) x ≡ true) (λ x h. ap is_some (rank_alike n xs (without block n xs) a x h.0) ∙ h.1) xs (all_both _ _ xs a.no_child f.ranks));
       fits = λ h.
           let u = level_alike n xs (without block n xs) a 1 h in let v = level_alike n xs (without block n xs) a 2 h in
-          let s = level_without (without block n xs) 1 h n xs in let t = level_without (without block n xs) 2 h n xs in
+          let s = count_without block (λ y. is_rank 1 h (rank (without block n xs) y)) n xs in let t = count_without block (λ y. is_rank 2 h (rank (without block n xs) y)) n xs in
           let o = fits_first xs h (f.fits h) in
           fits_from (without block n xs) h (omega (arith, u, s, o)) (omega (arith, v, t, o)) (omega (arith, u, v, s, t, o));
     })
@@ -190,6 +181,16 @@ not_named n xs b s k =
 -- a block that may join has a rank: it is a head, or there is room on its level and in its family
 abbrev joins_by : List BlockBid → Option Rank → Bool
 joins_by xs o = elim o [ None ↦ false | Some r ↦ leb r.level 0 || (ltb (level_count xs r.level r.head xs) 3 && ltb (level_count xs 1 r.head xs + level_count xs 2 r.head xs) 5) ]
+
+-- a block below a head may join where its level and its family have a place left
+pub joins_below : (xs : List BlockBid) (b : BlockBid) (r : Rank) (here : ℕ) → Some r ≡ rank xs b → 0 < r.level → (r.level ≡ 1 → here ≡ level_count xs 1 r.head xs) → ((r.level ≡ 1 → ⊥) → here ≡ level_count xs 2 r.head xs) → may_join xs b ≡ (ltb here 3 && ltb (level_count xs 1 r.head xs + level_count xs 2 r.head xs) 5)
+joins_below xs b r here e z one two =
+    let t = rank_bound 2 xs 0 b r (sym e) in
+    let h : here ≡ level_count xs r.level r.head xs = elim (cases_eq r.level 1) as (λ _. here ≡ level_count xs r.level r.head xs) [
+      | inl v ↦ one v ∙ ap (λ l. level_count xs l r.head xs) (sym v)
+      | inr v ↦ let w : r.level ≡ 2 = omega (arith, t, z) in two v ∙ ap (λ l. level_count xs l r.head xs) (sym w)
+    ] in
+    ap (joins_by xs) (sym e) ∙ ap (λ o. o || (ltb (level_count xs r.level r.head xs) 3 && ltb (level_count xs 1 r.head xs + level_count xs 2 r.head xs) 5)) (lt-leb r.level 0 z) ∙ ap (λ n. ltb n 3 && ltb (level_count xs 1 r.head xs + level_count xs 2 r.head xs) 5) (sym h)
 
 -- with such a block no family is too large
 joined_fits : (xs : List BlockBid) (r : Rank) → ((h : ℕ) → family_fits xs h ≡ true) → joins_by xs (Some r) ≡ true → (h : ℕ)
@@ -237,8 +238,8 @@ families_entered b xs k s p j =
             ranks = all_entered block _ b xs (ap is_some (rest b own ∙ z.1)) (All-weaker (λ x. (names_parent b.number x ≡ false) × (ranked xs x ≡ true)) (λ x. ranked (entered block b xs) x ≡ true) (λ x h. ap is_some (rest x h.0) ∙ h.1) xs (all_both _ _ xs a.no_child f.ranks));
             fits = λ h.
                 let o = joined_fits xs z.0 f.fits (sym (ap (joins_by xs) z.1) ∙ j) h in
-                let u = level_entered (entered block b xs) 1 h b xs ∙ ap (λ o. cond (is_rank 1 h o) 1 0 + level_count (entered block b xs) 1 h xs) (rest b own ∙ z.1) in
-                let v = level_entered (entered block b xs) 2 h b xs ∙ ap (λ o. cond (is_rank 2 h o) 1 0 + level_count (entered block b xs) 2 h xs) (rest b own ∙ z.1) in
+                let u = count_entered block (λ y. is_rank 1 h (rank (entered block b xs) y)) b xs ∙ ap (λ o. cond (is_rank 1 h o) 1 0 + level_count (entered block b xs) 1 h xs) (rest b own ∙ z.1) in
+                let v = count_entered block (λ y. is_rank 2 h (rank (entered block b xs) y)) b xs ∙ ap (λ o. cond (is_rank 2 h o) 1 0 + level_count (entered block b xs) 2 h xs) (rest b own ∙ z.1) in
                 let s = level_alike b.number xs (entered block b xs) a 1 h in let t = level_alike b.number xs (entered block b xs) a 2 h in
                 fits_from (entered block b xs) h (omega (arith, u, s, o)) (omega (arith, v, t, o)) (omega (arith, u, v, s, t, o));
           })

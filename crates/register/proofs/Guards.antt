@@ -3,9 +3,7 @@ use Rattle.std.proofs.Common.{◌≡◌, ◌≤◌, Bool, true, not, leb, [], �
 use Rattle.std.proofs.lemmas.Bool.{and_parts, and_from, leb-true, le-leb, not-false}
 use Rattle.market.specs.declared.limits.Limits.{Limits}
 use Rattle.market.specs.declared.refusals.Rule.TheVariants as rules
-use Rattle.bids.specs.Registers.{hourly, block, flexible}
 use Rattle.bids.specs.Checks.{first_of, broken}
-use Rattle.register.specs.Order.{ordered, rising}
 use Rattle.register.specs.Entries.{Rules}
 use Rattle.register.specs.Lawful.{Tables, hourly_kept, blocks_kept, flexible_kept, lawful_table, register_rules}
 use Rattle.register.specs.declared.lawful.Counts.{Counts}
@@ -43,16 +41,6 @@ module _ {C : Type 0} (l : Limits) (n : Counts) (t : Tables C) where
         blocks_right = b.1;
         flexible_right = c.1;
       }
-
-  -- the numbers of each register rise
-  pub hourly_rises : Guarded → rising hourly 0 (take n.hourly t.hourly) ≡ true
-  hourly_rises g = (and_parts (rising hourly 0 (take n.hourly t.hourly)) _ (and_parts (ordered hourly (take n.hourly t.hourly)) _ g.hourly_right).0).0
-
-  pub blocks_rise : Guarded → rising block 0 (take n.blocks t.blocks) ≡ true
-  blocks_rise g = (and_parts (rising block 0 (take n.blocks t.blocks)) _ (and_parts (ordered block (take n.blocks t.blocks)) _ g.blocks_right).0).0
-
-  pub flexible_rise : Guarded → rising flexible 0 (take n.flexible t.flexible) ≡ true
-  flexible_rise g = (and_parts (rising flexible 0 (take n.flexible t.flexible)) _ (and_parts (ordered flexible (take n.flexible t.flexible)) _ g.flexible_right).0).0
 
   pub guard_passes : Guarded → first_of (register_rules l n t) ≡ Ok tt
   guard_passes g =

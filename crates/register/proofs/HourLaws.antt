@@ -1,15 +1,15 @@
 -- The hours of hourly bids: what a loop has marked as taken, and what entering and withdrawing leave.
-use Rattle.std.proofs.Common.{◌≡◌, ℕ, zero, suc, ◌+◌, ◌*◌, ◌<◌, ◌≤◌, Bool, true, false, not, ◌&&◌, ◌||◌, eqb, ltb, leb, ◌≢◌, List, [], ◌∷◌, ◌++◌, length, get_or, take, drop, set, replicate, sym, refl, ap, ◌∙◌, subst, inl, inr, arith, length-set, take_all, get_or-set_other, get_or-set_same}
+use Rattle.std.proofs.Common.{◌≡◌, ℕ, zero, suc, ◌+◌, ◌*◌, ◌<◌, Bool, true, false, not, ◌&&◌, ◌||◌, eqb, ltb, leb, ◌≢◌, List, [], ◌∷◌, ◌++◌, length, get_or, take, drop, set, replicate, sym, refl, ap, ◌∙◌, subst, inl, inr, arith, length-set, get_or-set_other, get_or-set_same}
 use lib.ListN.{length-replicate, get_or-replicate}
 use Rattle.std.proofs.lemmas.List.{take_more}
-use Rattle.std.proofs.lemmas.Bool.{and_parts, and_from, or_parts, or_from, or_left, or_right, leb-true, eqb-true, eq-eqb, ne_eqb, cases_Bool, cases_eq, cond_both, both_ways, not-true, not_from_false}
+use Rattle.std.proofs.lemmas.List.Folds.{list_any-append}
+use Rattle.std.proofs.lemmas.Bool.{and_parts, and_from, and_right, or_parts, or_from, or_left, or_right, leb-true, eqb-true, eq-eqb, ne_eqb, cases_Bool, cases_eq, cond_both, both_ways, not-true, not_from_false}
 use Rattle.bids.specs.declared.rows.HourlyBid.{HourlyBid}
 use Rattle.bids.specs.Registers.{hourly}
 use Rattle.register.specs.Order.{each, known, entered, without}
 use Rattle.register.specs.Hours.{in_hour, hour_taken, apart, hour_right, hours_kept}
 use Rattle.register.proofs.Laws.{each_all, all_each, all_entered, all_without}
-use Rattle.register.proofs.Counted.{and_false, each_stop}
-use Rattle.register.proofs.Each.{each_goes, each_ends, each_at}
+use Rattle.register.proofs.Each.{each_goes, each_at}
 
 eqb_same : (a b : ℕ) → eqb a b ≡ eqb b a
 eqb_same a b = elim (cases_eq a b) as (λ _. eqb a b ≡ eqb b a) [ inl e ↦ eq-eqb a b e ∙ sym (eq-eqb b a (sym e)) | inr n ↦ ne_eqb a b n ∙ sym (ne_eqb b a (λ e. n (sym e))) ]
@@ -31,18 +31,10 @@ module _ {C : Type 0} where
   in_hour_same : (x y : HourlyBid C) → in_hour x.participant x.hour y ≡ in_hour y.participant y.hour x
   in_hour_same x y = ap (λ b. b && eqb y.hour x.hour) (eqb_same y.participant x.participant) ∙ ap (λ b. eqb x.participant y.participant && b) (eqb_same y.hour x.hour)
 
-  taken_append : (p h : ℕ) (xs ys : List (HourlyBid C)) → hour_taken p h (xs ++ ys) ≡ (hour_taken p h xs || hour_taken p h ys)
-  taken_append p h [] ys = refl
-  taken_append p h (x ∷ xs) ys = ap (λ b. in_hour p h x || b) (taken_append p h xs ys) ∙ regroup (in_hour p h x) (hour_taken p h xs) (hour_taken p h ys)
-    where
-      regroup : (a b c : Bool) → (a || (b || c)) ≡ ((a || b) || c)
-      regroup true b c = refl
-      regroup false b c = refl
-
   apart_push : (ys : List (HourlyBid C)) (x : HourlyBid C) → apart (ys ++ x ∷ []) ≡ (apart ys && not (hour_taken x.participant x.hour ys))
   apart_push [] x = refl
   apart_push (y ∷ ys) x =
-      ap (λ b. not b && apart (ys ++ x ∷ [])) (taken_append y.participant y.hour ys (x ∷ []))
+      ap (λ b. not b && apart (ys ++ x ∷ [])) (list_any-append (in_hour y.participant y.hour) ys (x ∷ []))
       ∙ ap (λ b. not (hour_taken y.participant y.hour ys || (in_hour y.participant y.hour x || false)) && b) (apart_push ys x)
       ∙ four (hour_taken y.participant y.hour ys) (in_hour y.participant y.hour x) (apart ys) (hour_taken x.participant x.hour ys)
       ∙ ap (λ b. (not (hour_taken y.participant y.hour ys) && apart ys) && not (b || hour_taken x.participant x.hour ys)) (in_hour_same y x)
@@ -84,21 +76,15 @@ module _ {C : Type 0} where
   }
 
   module _ (xs : List (HourlyBid C)) (i : ℕ) (taken : List Bool) (s : Marked xs i taken) where
-    pub marked_all : length xs ≤ i → hours_kept xs ≡ true
-    marked_all h = and_from _ _ (each_ends hour_right xs i h s.right) (sym (ap apart (take_all i xs h)) ∙ s.so_far)
-
     module _ (x : HourlyBid C) (l : i < length xs) (e : x ≡ get_or xs i x) where
       grown : take (i + 1) xs ≡ take i xs ++ x ∷ []
       grown = take_more xs i x l ∙ ap (λ y. take i xs ++ y ∷ []) (sym e)
 
-      pub stop_hour : hour_right x ≡ false → hours_kept xs ≡ false
-      stop_hour h = ap (λ b. b && apart xs) (each_stop hour_right xs i x l e h)
-
       pub stop_taken : x.participant < 1000 → x.hour < 24 → get_or taken (x.participant * 24 + x.hour) false ≡ true → hours_kept xs ≡ false
       stop_taken lp lh m =
           let t : hour_taken x.participant x.hour (take i xs) ≡ true = sym (s.marks x.participant x.hour lp lh) ∙ m in
-          let f : apart (take (i + 1) xs) ≡ false = ap apart grown ∙ apart_push (take i xs) x ∙ and_false (apart (take i xs)) _ (ap not t) in
-          and_false (each hour_right xs) (apart xs) (elim (cases_Bool (apart xs)) as (λ _. apart xs ≡ false) [ inl a ↦ absurd (both_ways _ f (apart_front xs (i + 1) a)) | inr a ↦ a ])
+          let f : apart (take (i + 1) xs) ≡ false = ap apart grown ∙ apart_push (take i xs) x ∙ and_right (apart (take i xs)) _ (ap not t) in
+          and_right (each hour_right xs) (apart xs) (elim (cases_Bool (apart xs)) as (λ _. apart xs ≡ false) [ inl a ↦ absurd (both_ways _ f (apart_front xs (i + 1) a)) | inr a ↦ a ])
 
       pub marked_more : x.participant < 1000 → hour_right x ≡ true → get_or taken (x.participant * 24 + x.hour) false ≡ false → Marked xs (i + 1) (set taken (x.participant * 24 + x.hour) true)
       marked_more lp r m =
@@ -108,7 +94,7 @@ module _ {C : Type 0} where
             right = each_goes hour_right xs i x l e r s.right;
             so_far = ap apart grown ∙ apart_push (take i xs) x ∙ and_from _ _ s.so_far (not_from_false _ t);
             marks = λ p h bp bh.
-                let g = ap (hour_taken p h) grown ∙ taken_append p h (take i xs) (x ∷ []) in
+                let g = ap (hour_taken p h) grown ∙ list_any-append (in_hour p h) (take i xs) (x ∷ []) in
                 let w = s.marks p h bp bh in
                 elim (cases_eq (x.participant * 24 + x.hour) (p * 24 + h)) as (λ _. get_or (set taken (x.participant * 24 + x.hour) true) (p * 24 + h) false ≡ hour_taken p h (take (i + 1) xs)) [
                   | inl z ↦

@@ -1,10 +1,11 @@
 -- What holds of registers as lists: what a place says of them, and what keeps them lawful.
-use Rattle.std.proofs.Common.{◌≡◌, ℕ, zero, suc, ◌+◌, ◌-◌, ◌<◌, ◌≤◌, Bool, true, false, cond, ◌||◌, eqb, ltb, List, [], ◌∷◌, length, get_or, take, is_ok, Ok, Err, Result, sym, refl, ap, ◌∙◌, subst, inl, inr, arith}
+use Rattle.std.proofs.Common.{◌≡◌, ℕ, zero, suc, ◌+◌, ◌<◌, ◌≤◌, Bool, true, false, cond, ◌||◌, eqb, ltb, List, [], ◌∷◌, length, get_or, is_ok, Ok, Err, Result, sym, refl, ap, ◌∙◌, inl, inr, arith}
 use Rattle.std.specs.List.{AllByRecursion, insert, remove}
 use Rattle.std.proofs.lemmas.Bool.{and_parts, and_from, or_from, or_parts, or_left, or_right, ltb-true, ltb-false, lt-ltb, le-ltb, leb-true, le-leb, eqb-true, eqb-false, eq-eqb, ne_eqb, cond-true, cond-false, cond_both, cases_lt, cases_Bool}
 use Rattle.bids.specs.Kinds.{Kind}
 use Rattle.register.specs.Order.{each, stands, tally, entered, without, rising, known, few, ordered, Placed, Ordered}
 use Rattle.register.proofs.Steps.{above}
+use Rattle.register.proofs.Tallies.{count_cons, count_entered, count_without}
 
 -- what is true of each, as a test and in words
 pub each_all : {X : Type 0} (t : X → Bool) (xs : List X) → each t xs ≡ true → AllByRecursion (λ x. t x ≡ true) xs
@@ -29,10 +30,6 @@ module _ {B : Type 0} (k : Kind B) where
   stands_is n xs (Ok i) p = stands_yes n xs i p.0 p.1
   stands_is n xs (Err i) p =
       stands_no n xs (λ j d l e. elim (cases_lt j i) as (λ _. ⊥) [ inl a ↦ let b = p.1 j d a in omega arith | inr a ↦ let b = p.2 j d a l in omega arith ])
-
-  -- the part `&s[0..n]` as the checker reads it
-  pub same_place : (m n : ℕ) (xs : List B) (r : Result ℕ ℕ) → Placed k m (take (n - 0) xs) r → Placed k m (take n xs) r
-  same_place m n xs r p = let e : n - 0 ≡ n = omega arith in subst (λ i. Placed k m (take i xs) r) e p
 
   pub entered_is : (b : B) (xs : List B) (i : ℕ) → Placed k (k.number_of b) xs (Err i) → insert xs i b ≡ entered k b xs
   entered_is b [] zero p = refl
@@ -76,12 +73,6 @@ module _ {B : Type 0} (k : Kind B) where
   all_entered P b [] h a = (h, tt)
   all_entered P b (x ∷ xs) h a = cond_both (ltb (k.number_of x) (k.number_of b)) (x ∷ entered k b xs) (b ∷ x ∷ xs) (AllByRecursion P) (λ e. (a.0, all_entered P b xs h a.1)) (λ e. (h, a))
 
-  pub tally_entered : (p : ℕ) (b : B) (xs : List B) → tally k p (entered k b xs) ≡ cond (eqb (k.participant_of b) p) 1 0 + tally k p xs
-  tally_entered p b [] = refl
-  tally_entered p b (x ∷ xs) =
-      let r = tally_entered p b xs in
-      cond_both (ltb (k.number_of x) (k.number_of b)) (x ∷ entered k b xs) (b ∷ x ∷ xs) (λ ys. tally k p ys ≡ cond (eqb (k.participant_of b) p) 1 0 + tally k p (x ∷ xs)) (λ e. omega (arith, r)) (λ e. refl)
-
   pub length_entered : (b : B) (xs : List B) → length (entered k b xs) ≡ length xs + 1
   length_entered b [] = refl
   length_entered b (x ∷ xs) =
@@ -99,12 +90,6 @@ module _ {B : Type 0} (k : Kind B) where
   all_without P m [] a = tt
   all_without P m (x ∷ xs) a = cond_both (eqb (k.number_of x) m) xs (x ∷ without k m xs) (AllByRecursion P) (λ e. a.1) (λ e. (a.0, all_without P m xs a.1))
 
-  pub tally_without : (p m : ℕ) (xs : List B) → tally k p (without k m xs) ≤ tally k p xs
-  tally_without p m [] = omega arith
-  tally_without p m (x ∷ xs) =
-      let r = tally_without p m xs in
-      cond_both (eqb (k.number_of x) m) xs (x ∷ without k m xs) (λ ys. tally k p ys ≤ tally k p (x ∷ xs)) (λ e. omega arith) (λ e. omega (arith, r))
-
   pub length_without : (m : ℕ) (xs : List B) → stands k m xs ≡ true → length (without k m xs) + 1 ≡ length xs
   length_without m [] s = absurd cc
   length_without m (x ∷ xs) s =
@@ -116,9 +101,10 @@ module _ {B : Type 0} (k : Kind B) where
   tally_some all p [] a l = absurd (omega arith)
   tally_some all p (x ∷ xs) a l =
       let q = and_parts (few k all x) (each (few k all) xs) a in
+      let c = count_cons (λ y. eqb (k.participant_of y) p) x xs in
       elim (cases_Bool (eqb (k.participant_of x) p)) as (λ _. tally k p all ≤ k.most_standing) [
         | inl e ↦ let i = eqb-true (k.participant_of x) p e in let h = leb-true _ _ q.0 in rw i at h
-        | inr e ↦ let t = ap (λ b. cond b 1 0 + tally k p xs) e in tally_some all p xs q.1 (omega (arith, t))
+        | inr e ↦ let t = ap (λ b. cond b 1 0 + tally k p xs) e in tally_some all p xs q.1 (omega (arith, c, t))
       ]
 
   pub ordered_means : (xs : List B) → ordered k xs ≡ true → Ordered k xs
@@ -142,7 +128,7 @@ module _ {B : Type 0} (k : Kind B) where
   ordered_entered b xs h n s t = record {
     rises = rising_entered 0 b xs (ltb-true _ _ (and_parts _ _ n).0) s h.rises;
     knows = all_entered _ b xs n h.knows;
-    few_each = λ p. let e = tally_entered p b xs in let f = h.few_each p in
+    few_each = λ p. let e = count_entered k (λ y. eqb (k.participant_of y) p) b xs in let f = h.few_each p in
         elim (cases_Bool (eqb (k.participant_of b) p)) as (λ _. tally k p (entered k b xs) ≤ k.most_standing) [
           | inl z ↦ let u = ap (λ b. cond b 1 0 + tally k p xs) z in let i = eqb-true (k.participant_of b) p z in let v : tally k p xs < k.most_standing = rw i at t in omega (arith, e, u)
           | inr z ↦ let u = ap (λ b. cond b 1 0 + tally k p xs) z in omega (arith, e, u)
@@ -153,5 +139,5 @@ module _ {B : Type 0} (k : Kind B) where
   ordered_without m xs h = record {
     rises = rising_without m 0 xs h.rises;
     knows = all_without _ m xs h.knows;
-    few_each = λ p. let e = tally_without p m xs in let f = h.few_each p in omega (arith, e, f);
+    few_each = λ p. let e = count_without k (λ y. eqb (k.participant_of y) p) m xs in let f = h.few_each p in omega (arith, e, f);
   }

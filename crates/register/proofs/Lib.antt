@@ -1,4 +1,5 @@
 pub mod Steps
+pub mod Tallies
 pub mod Laws
 pub mod Counted
 pub mod Each
@@ -8,5 +9,6 @@ pub mod FamiliesRanks
 pub mod FamiliesCounted
 pub mod FamilyLaws
 pub mod EntryLaws
+pub mod Places
 pub mod Guards
 pub mod Words

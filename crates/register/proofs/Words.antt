@@ -1,18 +1,19 @@
 -- Lawful registers, as they are tested and in words.
-use Rattle.std.proofs.Common.{◌≡◌, ℕ, zero, suc, ◌+◌, ◌<◌, ◌≤◌, Bool, true, false, cond, not, ◌&&◌, eqb, ltb, leb, ◌↔◌, List, [], ◌∷◌, is_some as option_is_some, Some, None, Ok, Option, sym, refl, ap, ◌∙◌, subst, inl, inr, arith}
-use Rattle.std.proofs.lemmas.Bool.{and_parts, and_from, or_parts, or_from, ltb-true, lt-ltb, leb-true, le-leb, eqb-true, eq-eqb, not-true, not-false, not_from_false, cases_Bool, cases_lt, both_ways}
+use Rattle.std.proofs.Common.{◌≡◌, ℕ, zero, suc, ◌+◌, ◌<◌, ◌≤◌, Bool, true, false, not, ◌&&◌, eqb, ltb, leb, ◌↔◌, List, [], ◌∷◌, is_some as option_is_some, Some, None, Ok, Option, sym, refl, ap, ◌∙◌, subst, inl, inr, arith}
+use Rattle.std.proofs.lemmas.List.{get_or_default}
+use Rattle.std.proofs.lemmas.Bool.{and_parts, and_from, or_parts, or_from, ltb-true, lt-ltb, leb-true, le-leb, eqb-true, eq-eqb, not-true, not_from_false, cases_Bool, both_ways}
 use Rattle.market.specs.Prices.{within}
 use Rattle.market.specs.declared.limits.Limits.{Limits}
 use Rattle.bids.specs.Kinds.{Kind}
 use Rattle.bids.specs.Registers.{hourly, block, flexible}
-use Rattle.bids.specs.Checks.{first_of, or_else, first_where}
-use Rattle.bids.specs.Blocks.{BlockForm, block_fault, block_spans, block_right, block_quantity}
-use Rattle.bids.specs.Flexibles.{FlexibleForm, flexible_fault, flexible_spans, flexible_right}
+use Rattle.bids.specs.Checks.{first_of}
+use Rattle.bids.specs.Blocks.{block_fault, block_profile, block_quantity}
+use Rattle.bids.specs.Flexibles.{flexible_fault, flexible_profile}
 use Rattle.bids.specs.Quantities.{one_side}
 use Rattle.bids.specs.declared.rows.HourlyBid.{HourlyBid}
 use Rattle.bids.specs.declared.rows.BlockBid.{BlockBid}
 use Rattle.bids.specs.declared.rows.FlexibleBid.{FlexibleBid}
-use Rattle.bids.proofs.Checks.{no_fault}
+use Rattle.bids.proofs.Checks.{kept_form, no_fault}
 use Rattle.register.specs.Order.{each, known, rising, ordered, standing_as}
 use Rattle.register.specs.Hours.{in_hour, hour_taken, apart, hour_right, hours_kept}
 use Rattle.register.specs.Families.{rank, level_count, parent_fits, parent_kept, family_fits, families_kept}
@@ -22,7 +23,7 @@ use Rattle.register.specs.declared.families.Rank.{Rank}
 use Rattle.register.specs.declared.lawful.Counts.{Counts}
 use Rattle.register.proofs.Steps.{apart as rising_apart}
 use Rattle.register.proofs.Laws.{each_all, all_each, ordered_means, ordered_from}
-use Rattle.register.proofs.Each.{each_at, any_default}
+use Rattle.register.proofs.Each.{each_at}
 use Rattle.register.proofs.FamiliesCounted.{ranked}
 use Rattle.register.proofs.FamilyLaws.{families_means, families_from, fits_first, no_own_ancestor}
 use Rattle.register.proofs.Guards.{guarded, guard_passes}
@@ -32,9 +33,6 @@ module _ {X : Type 0} where
   pub places_each : (t : X → Bool) (xs : List X) → OfEach xs (λ b. t b ≡ true) → each t xs ≡ true
   places_each t [] f = refl
   places_each t (x ∷ xs) f = and_from _ _ (f 0 x (omega arith) refl) (places_each t xs (λ i b l e. f (suc i) b (omega arith) e))
-
-  pub each_places : (t : X → Bool) (xs : List X) → each t xs ≡ true → OfEach xs (λ b. t b ≡ true)
-  each_places t xs h i b l e = each_at t xs i b h l e
 
 -- ---- bids in order
 module _ {B : Type 0} (k : Kind B) where
@@ -65,7 +63,7 @@ module _ {B : Type 0} (k : Kind B) where
         rise = λ i j b d l m e f.
             let r = rising_apart k 0 xs o.rises i j b l m in
             let x = ap k.number_of e in
-            let y = ap k.number_of (f ∙ any_default xs j d b m) in
+            let y = ap k.number_of (f ∙ get_or_default xs j d b m) in
             omega (arith, r, x, y);
         numbers = λ i b l e. (known_parts b (each_at (known k) xs i b a l e)).0;
         participants = λ i b l e. (known_parts b (each_at (known k) xs i b a l e)).1;
@@ -125,40 +123,6 @@ module _ {C : Type 0} where
   hourly_from xs w = and_from _ _ (in_order_from hourly xs w.in_order) (and_from _ _ (places_each hour_right xs (λ i b l e. le-leb _ _ (w.hours i b l e))) (apart_from xs w.apart_each))
 
 -- ---- the form of a bid
-or_else_none : (o p : Option ℕ) → or_else o p ≡ None → (o ≡ None) × (p ≡ None)
-or_else_none None p h = (refl, h)
-or_else_none (Some k) p h = absurd cc
-
-test_none : (t : Bool) (n : ℕ) → cond t (Some n) None ≡ None → t ≡ false
-test_none true n h = absurd cc
-test_none false n h = refl
-
-none_where : (t : ℕ → Bool) (n : ℕ) → first_where n t ≡ None → (i : ℕ) → i < n → t i ≡ false
-none_where t zero h i l = absurd (omega arith)
-none_where t (suc n) h i l =
-    let p = or_else_none (first_where n t) (cond (t n) (Some n) None) h in
-    elim (cases_lt i n) as (λ _. t i ≡ false) [ inl a ↦ none_where t n p.0 i a | inr a ↦ let e : n ≡ i = omega arith in subst (λ j. t j ≡ false) e (test_none (t n) n p.1) ]
-
-none_fault : (spans : Bool) (n : ℕ) (right : ℕ → Bool) → cond spans (first_where n (λ i. not (right i))) (Some 99) ≡ None → (spans ≡ true) × ((i : ℕ) → i < n → right i ≡ true)
-none_fault true n right h = (refl, λ i l. not-false _ (none_where (λ i. not (right i)) n h i l))
-none_fault false n right h = absurd cc
-
-block_form_means : (b : BlockBid) → block_fault b ≡ None → BlockForm b
-unfolding block_fault
-block_form_means b h = let p = none_fault (block_spans b) b.hours (block_right b) h in record { spans = p.0; right = p.1 }
-
-block_form_from : (b : BlockBid) → BlockForm b → block_fault b ≡ None
-unfolding block_fault
-block_form_from b f = no_fault (block_spans b) b.hours (block_right b) f.spans f.right
-
-flexible_form_means : (b : FlexibleBid) → flexible_fault b ≡ None → FlexibleForm b
-unfolding flexible_fault
-flexible_form_means b h = let p = none_fault (flexible_spans b) b.duration (flexible_right b) h in record { spans = p.0; right = p.1 }
-
-flexible_form_from : (b : FlexibleBid) → FlexibleForm b → flexible_fault b ≡ None
-unfolding flexible_fault
-flexible_form_from b f = no_fault (flexible_spans b) b.duration (flexible_right b) f.spans f.right
-
 is_none : (o : Option ℕ) → not (option_is_some o) ≡ true → o ≡ None
 is_none None h = refl
 is_none (Some k) h = absurd (both_ways _ refl h)
@@ -196,7 +160,7 @@ blocks_means l xs h =
     let parts : OfEach xs (λ b. (block_fault b ≡ None) × (within l b.price ≡ true)) = λ i b n e. let r = and_parts (not (option_is_some (block_fault b))) (within l b.price) (each_at (block_alone l) xs i b q.0 n e) in (is_none _ r.0, r.1) in
     record {
       in_order = in_order_means block xs p.0;
-      forms = λ i b n e. block_form_means b (parts i b n e).0;
+      forms = λ i b n e. kept_form (block_profile b) (parts i b n e).0;
       prices = λ i b n e. (parts i b n e).1;
       parents = λ i b n e. parent_words xs b b.parent (each_at (parent_kept xs) xs i b (all_each (parent_kept xs) xs f.parents) n e);
       levels = λ i b n e. some_of (rank xs b) (each_at (ranked xs) xs i b (all_each (ranked xs) xs f.ranks) n e);
@@ -207,7 +171,7 @@ blocks_means l xs h =
 pub blocks_from : (l : Limits) (xs : List BlockBid) → LawfulBlocks l xs → blocks_kept l xs ≡ true
 blocks_from l xs w =
     and_from _ _ (in_order_from block xs w.in_order) (and_from _ _
-    (places_each (block_alone l) xs (λ i b n e. and_from _ _ (ap (λ o. not (option_is_some o)) (block_form_from b (w.forms i b n e))) (w.prices i b n e)))
+    (places_each (block_alone l) xs (λ i b n e. and_from _ _ (ap (λ o. not (option_is_some o)) (no_fault (block_profile b) (w.forms i b n e))) (w.prices i b n e)))
     (families_from xs (record {
       parents = each_all (parent_kept xs) xs (places_each (parent_kept xs) xs (λ i b n e. words_parent xs b b.parent (w.parents i b n e)));
       ranks = each_all (ranked xs) xs (places_each (ranked xs) xs (λ i b n e. is_some (rank xs b) (w.levels i b n e)));
@@ -219,12 +183,12 @@ pub flexible_means : (l : Limits) (xs : List FlexibleBid) → flexible_kept l xs
 flexible_means l xs h =
     let p = and_parts (ordered flexible xs) (each (flexible_alone l) xs) h in
     let parts : OfEach xs (λ b. (flexible_fault b ≡ None) × (within l b.price ≡ true)) = λ i b n e. let r = and_parts (not (option_is_some (flexible_fault b))) (within l b.price) (each_at (flexible_alone l) xs i b p.1 n e) in (is_none _ r.0, r.1) in
-    record { in_order = in_order_means flexible xs p.0; forms = λ i b n e. flexible_form_means b (parts i b n e).0; prices = λ i b n e. (parts i b n e).1 }
+    record { in_order = in_order_means flexible xs p.0; forms = λ i b n e. kept_form (flexible_profile b) (parts i b n e).0; prices = λ i b n e. (parts i b n e).1 }
 
 pub flexible_from : (l : Limits) (xs : List FlexibleBid) → LawfulFlexible l xs → flexible_kept l xs ≡ true
 flexible_from l xs w =
     and_from _ _ (in_order_from flexible xs w.in_order)
-    (places_each (flexible_alone l) xs (λ i b n e. and_from _ _ (ap (λ o. not (option_is_some o)) (flexible_form_from b (w.forms i b n e))) (w.prices i b n e)))
+    (places_each (flexible_alone l) xs (λ i b n e. and_from _ _ (ap (λ o. not (option_is_some o)) (no_fault (flexible_profile b) (w.forms i b n e))) (w.prices i b n e)))
 
 -- ---- the three registers
 module _ {C : Type 0} (l : Limits) (n : Counts) (t : Tables C) where

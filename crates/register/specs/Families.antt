@@ -1,5 +1,6 @@
 -- The families of blocks: a block without parent and everything below it.
-use Rattle.std.specs.Prelude.{ℕ, zero, suc, ◌+◌, Bool, true, false, cond, ◌&&◌, ◌||◌, List, [], ◌∷◌, Some, None, Option, ◌==◌, nat_eq, nat_le, nat_lt}
+use Rattle.std.specs.Prelude.{ℕ, zero, suc, ◌+◌, Bool, true, false, ◌&&◌, ◌||◌, List, Some, None, Option, ◌==◌, nat_eq, nat_le, nat_lt}
+use Rattle.std.specs.List.{list_any, count_by}
 use Rattle.bids.specs.declared.rows.BlockBid.{BlockBid}
 use Rattle.bids.specs.Registers.{block}
 use Rattle.bids.specs.Blocks.{block_quantity}
@@ -31,8 +32,7 @@ is_rank l h (Some r) = r.level == l && r.head == h
 
 -- how many of the blocks xs are, among all, on the level l below the head of the number h
 abbrev pub level_count : List BlockBid → ℕ → ℕ → List BlockBid → ℕ
-level_count all l h [] = 0
-level_count all l h (x ∷ xs) = cond (is_rank l h (rank all x)) 1 0 + level_count all l h xs
+level_count all l h xs = count_by (λ x. is_rank l h (rank all x)) xs
 
 -- the family below the head of the number h: at most three blocks on each of two lower levels, and six blocks with the head
 abbrev pub family_fits : List BlockBid → ℕ → Bool
@@ -56,5 +56,4 @@ names_parent n b = elim b.parent [ None ↦ false | Some p ↦ nat_eq p n ]
 
 -- a child of the block of the number n stands
 abbrev pub child_stands : ℕ → List BlockBid → Bool
-child_stands n [] = false
-child_stands n (x ∷ xs) = names_parent n x || child_stands n xs
+child_stands n xs = list_any (names_parent n) xs

@@ -1,5 +1,6 @@
 -- The hours of hourly bids.
-use Rattle.std.specs.Prelude.{ℕ, Bool, true, false, not, ◌&&◌, ◌||◌, List, [], ◌∷◌, ◌==◌, nat_le}
+use Rattle.std.specs.Prelude.{ℕ, Bool, true, not, ◌&&◌, List, [], ◌∷◌, ◌==◌, nat_le}
+use Rattle.std.specs.List.{list_any}
 use Rattle.bids.specs.declared.rows.HourlyBid.{HourlyBid}
 use Rattle.register.specs.Order.{each}
 
@@ -9,8 +10,7 @@ in_hour p h x = x.participant == p && x.hour == h
 
 -- the participant p has a bid in the hour h
 abbrev pub hour_taken : {C : Type 0} → ℕ → ℕ → List (HourlyBid C) → Bool
-hour_taken p h [] = false
-hour_taken p h (x ∷ xs) = in_hour p h x || hour_taken p h xs
+hour_taken p h xs = list_any (in_hour p h) xs
 
 -- no two bids are one participant's in one hour
 abbrev pub apart : {C : Type 0} → List (HourlyBid C) → Bool

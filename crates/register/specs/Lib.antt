@@ -4,4 +4,6 @@ pub mod Families
 pub mod Ancestors
 pub mod Entries
 pub mod Lawful
+pub mod Demands
+pub mod Views
 pub mod Words

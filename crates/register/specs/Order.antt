@@ -1,18 +1,16 @@
 -- Bids of a register, as a list.
-use Rattle.std.specs.Prelude.{◌≡◌, ℕ, ◌+◌, ◌<◌, ◌≤◌, Bool, true, false, cond, ◌&&◌, ◌||◌, List, [], ◌∷◌, length, Some, None, Ok, Err, Option, Result, ◌==◌, nat_le, nat_lt, slice_index_or}
-use Rattle.std.specs.List.{AllByRecursion}
+use Rattle.std.specs.Prelude.{◌≡◌, ℕ, ◌<◌, ◌≤◌, Bool, true, cond, ◌&&◌, List, [], ◌∷◌, length, Some, None, Ok, Err, Option, Result, ◌==◌, nat_le, nat_lt, slice_index_or}
+use Rattle.std.specs.List.{AllByRecursion, list_any, list_all, count_by}
 use Rattle.bids.specs.Kinds.{Kind}
 
 -- t is true of each
 abbrev pub each : {X : Type 0} → (X → Bool) → List X → Bool
-each t [] = true
-each t (x ∷ xs) = t x && each t xs
+each t xs = list_all t xs
 
 module _ {B : Type 0} (k : Kind B) where
   -- a bid of the number n stands
   abbrev pub stands : ℕ → List B → Bool
-  stands n [] = false
-  stands n (x ∷ xs) = k.number_of x == n || stands n xs
+  stands n xs = list_any (λ x. k.number_of x == n) xs
 
   -- the bid of the number n, where one stands
   abbrev pub standing_as : ℕ → List B → Option B
@@ -21,8 +19,7 @@ module _ {B : Type 0} (k : Kind B) where
 
   -- how many bids of the participant p stand
   abbrev pub tally : ℕ → List B → ℕ
-  tally p [] = 0
-  tally p (x ∷ xs) = cond (k.participant_of x == p) 1 0 + tally p xs
+  tally p xs = count_by (λ x. k.participant_of x == p) xs
 
   -- the bids with b among them, by rising number
   abbrev pub entered : B → List B → List B

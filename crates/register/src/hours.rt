@@ -15,6 +15,7 @@ pub fn are_hours_kept<C>(bids: &[HourlyBid<C>]) -> bool
     requires { each (known hourly) bids.now ≡ true }
     ensures { result ≡ hours_kept bids.now }
 {
+    // The hours lie in an array of fixed size, 24 for each participant, since a library here has no heap.
     let mut taken = [false; 24_000];
     for bid in bids {
         if bid.hour > LAST_HOUR {
@@ -33,10 +34,6 @@ pub fn are_hours_kept<C>(bids: &[HourlyBid<C>]) -> bool
 pub fn is_hour_taken<C>(bids: &[HourlyBid<C>], participant: u16, hour: u8) -> bool
     ensures { result ≡ hour_taken participant hour bids.now }
 {
-    for bid in bids {
-        if bid.participant == participant && bid.hour == hour {
-            return true;
-        }
-    }
-    false
+    bids.iter()
+        .any(|bid| bid.participant == participant && bid.hour == hour)
 }

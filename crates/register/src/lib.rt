@@ -4,13 +4,15 @@
 
 pub mod entries;
 pub mod families;
+mod formed;
 pub mod hours;
 pub mod lawful;
 pub mod ordered;
+mod refusing;
+pub mod registered;
 
-pub use entries::{
-    judge_block, judge_block_withdrawal, judge_flexible, judge_hourly, judge_withdrawal,
-};
-pub use families::{Rank, rank_of};
-pub use lawful::{Counts, check_registers};
-pub use ordered::{find, insert, is_known, is_ordered, remove, standing};
+pub use entries::{enter, withdraw};
+pub use families::Rank;
+pub use lawful::{Counts, Tables, check_registers, is_lawful};
+pub use ordered::{Register, insert, is_known, is_ordered, remove, standing};
+pub use registered::{RegisterKind, Registered};

@@ -1,6 +1,6 @@
 //! One ordered register for every kind of bid.
 
-ghost use Rattle.std.specs.Prelude.{◌≡◌, ◌+◌, ◌-◌, ◌<◌, ◌≤◌, true, ◌++◌, length, take, drop};
+ghost use Rattle.std.specs.Prelude.{◌≡◌, ◌+◌, ◌-◌, ◌<◌, ◌≤◌, true, ◌++◌, length, take, drop, is_some, IfSome};
 ghost use Rattle.std.specs.List.{insert, remove};
 ghost use Rattle.register.specs.Order.{known, tally, ordered, rising, Placed};
 
@@ -11,6 +11,34 @@ pub const HIGHEST_NUMBER: u16 = 60_000;
 
 /// The highest number of a participant.
 pub const HIGHEST_PARTICIPANT: u16 = 999;
+
+/// Bids of one kind whose numbers rise, as they are lent.
+#[derive(Drop)]
+pub struct Register<'a, B: Bid> {
+    pub bids: &'a [B],
+    ghost rises: { rising B.Bid.kind 0 bids.now ≡ true },
+}
+
+impl<'a, B: Bid> Register<'a, B> {
+    /// The bids as a register, if they stand in order.
+    pub fn of(bids: &'a [B]) -> Option<Register<'a, B>>
+        ensures when { is_some result ≡ ordered B.Bid.kind bids.now }
+        ensures bids { IfSome result (λ r. r.bids.now ≡ bids.now) }
+    {
+        if is_ordered(bids) {
+            Some(Register { bids })
+        } else {
+            None
+        }
+    }
+
+    /// The place of a number: where it stands, or else where it would.
+    pub fn find(&self, number: u16) -> Result<usize, usize>
+        ensures { Placed B.Bid.kind number self.now.bids.now result }
+    {
+        self.bids.binary_search_by_key(&number, |bid| bid.number())
+    }
+}
 
 /// Whether the number and the participant of a bid are such as a register may hold.
 pub fn is_known<B: Bid>(bid: &B) -> bool
@@ -25,6 +53,7 @@ pub fn is_known<B: Bid>(bid: &B) -> bool
 pub fn is_ordered<B: Bid>(bids: &[B]) -> bool
     ensures { result ≡ ordered B.Bid.kind bids.now }
 {
+    // The counts lie in an array of fixed size, one for each participant, since a library here has no heap.
     let mut counts = [0usize; 1_000];
     let mut last = 0;
     for bid in bids {
@@ -34,7 +63,7 @@ pub fn is_ordered<B: Bid>(bids: &[B]) -> bool
         }
         let participant = bid.participant() as usize;
         let count = counts[participant];
-        if count >= B::standing_limit() {
+        if count >= B::MOST_STANDING {
             return false;
         }
         counts[participant] = count + 1;
@@ -47,40 +76,15 @@ pub fn is_ordered<B: Bid>(bids: &[B]) -> bool
 pub fn standing<B: Bid>(bids: &[B], participant: u16) -> usize
     ensures { result ≡ tally B.Bid.kind participant bids.now }
 {
-    let mut count: usize = 0;
-    for bid in bids {
-        if bid.participant() == participant {
-            count += 1;
-        }
-    }
-    count
-}
-
-/// The place of a number among bids of rising number: where it stands, or else where it would.
-pub fn find<B: Bid>(bids: &[B], number: u16) -> Result<usize, usize>
-    requires { rising B.Bid.kind 0 bids.now ≡ true }
-    ensures { Placed B.Bid.kind number bids.now result }
-{
-    let mut low = 0;
-    let mut high = bids.len();
-    while low < high {
-        let middle = low + (high - low) / 2;
-        let here = bids[middle].number();
-        if here == number {
-            return Ok(middle);
-        }
-        if here < number {
-            low = middle + 1;
-        } else {
-            high = middle;
-        }
-    }
-    Err(low)
+    bids.iter()
+        .filter(|bid| bid.participant() == participant)
+        .count()
 }
 
 /// Puts a bid at a place among the first bids of a table; those from there on move up by one.
 pub fn insert<B: Copy>(table: &mut [B], count: usize, place: usize, bid: B)
-    requires { (place ≤ count) × (count < length table.old) }
+    requires place { place ≤ count }
+    requires room { count < length table.old }
     ensures { table.new ≡ insert (take count table.old) place bid ++ drop (count + 1) table.old }
 {
     table.copy_within(place..count, place + 1);
@@ -89,7 +93,8 @@ pub fn insert<B: Copy>(table: &mut [B], count: usize, place: usize, bid: B)
 
 /// Takes the bid at a place out of the first bids of a table; those after it move down by one.
 pub fn remove<B: Copy>(table: &mut [B], count: usize, place: usize)
-    requires { (place < count) × (count ≤ length table.old) }
+    requires stands { place < count }
+    requires within { count ≤ length table.old }
     ensures front { take (count - 1) table.new ≡ remove (take count table.old) place }
     ensures rest { drop count table.new ≡ drop count table.old }
 {

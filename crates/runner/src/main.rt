@@ -2,18 +2,12 @@
 #![tactic(auto)]
 
 use console::report::merit;
-use console::{Failure, help, read_text};
+use console::{Failure, finish, help, no_more, read_text};
 use std::process::ExitCode;
 use std::{env, io};
 
 fn main(rt: HostRuntime) -> io::Result<ExitCode> {
-    match obey(&rt) {
-        Ok(()) => Ok(ExitCode::SUCCESS),
-        Err(failure) => {
-            eprintln!(rt; "dufnask: {failure}")?;
-            Ok(ExitCode::FAILURE)
-        }
-    }
+    finish(&rt, "dufnask", obey(&rt))
 }
 
 /// Does what the words of the command line ask for.
@@ -50,12 +44,4 @@ fn obey(rt: &HostRuntime) -> Result<(), Failure> {
 fn run(rt: &HostRuntime, file: Option<String>) -> Result<(), Failure> {
     let text = read_text(rt, file)?;
     script::run(rt, text.as_str())
-}
-
-/// That a command has no further word.
-fn no_more(word: Option<String>) -> Result<(), Failure> {
-    match word {
-        Some(word) => Err(Failure::Excess(word)),
-        None => Ok(()),
-    }
 }

@@ -19,25 +19,29 @@ pub fn measure(rt: &HostRuntime) -> Result<(), Failure> {
     let mut full = FullDay::new(rt.alloc())?;
     full.fill()?;
     println!(rt; "{:<58}  {:>14}", "call at full tables", "microseconds")?;
-    let start = Instant::now(rt)?;
-    for round in 0..ROUNDS {
-        full.renew_hourly(round * 40)?;
-    }
-    print_time(rt, "enter or withdraw an hourly bid", start)?;
-    let start = Instant::now(rt)?;
-    for round in 0..ROUNDS {
-        full.renew_block(round * 6 + 5)?;
-    }
-    print_time(rt, "enter or withdraw a block", start)?;
-    let start = Instant::now(rt)?;
-    for round in 0..ROUNDS {
-        full.renew_flexible(round * 5)?;
-    }
-    print_time(rt, "enter or withdraw a flexible bid", start)
+    measure_renewal(rt, "enter or withdraw an hourly bid", |round| {
+        full.renew_hourly(round.saturating_mul(40))
+    })?;
+    measure_renewal(rt, "enter or withdraw a block", |round| {
+        full.renew_block(round.saturating_mul(6).saturating_add(5))
+    })?;
+    measure_renewal(rt, "enter or withdraw a flexible bid", |round| {
+        full.renew_flexible(round.saturating_mul(5))
+    })
 }
 
-/// Prints the time since a start for each call of so many bids that were withdrawn and entered again.
-fn print_time(rt: &HostRuntime, label: &str, start: Instant) -> Result<(), Failure> {
+/// Prints how long each call takes of so many bids that are withdrawn and entered again.
+fn measure_renewal<F: FnMut(u16) -> Result<(), Refusal>>(
+    rt: &HostRuntime,
+    label: &str,
+    mut renew: F,
+) -> Result<(), Failure>
+    requires { F.IsAlwaysCallable renew }
+{
+    let start = Instant::now(rt)?;
+    for round in 0..ROUNDS {
+        renew(round)?;
+    }
     let spent = start.elapsed(rt)?.as_micros();
     let each = spent / (2 * ROUNDS as u128);
     println!(rt; "{label:<58}  {each:>14}")?;
@@ -52,6 +56,8 @@ struct FullDay {
     curve: BidCurve,
 }
 
+// A call of each kind, and not one for all three: the calls of `OpenDay` stand each for one register, and lend another of
+// the tables to be written.
 impl FullDay {
     /// A day with tables of the usual places, still without bids.
     fn new(heap: Global) -> Result<FullDay, Failure> {
@@ -70,16 +76,9 @@ impl FullDay {
 
     /// Enters a bid for each place.
     fn fill(&mut self) -> Result<(), Refusal> {
-        for index in 0..4_096 {
-            self.enter_hourly(index)?;
-        }
-        for index in 0..1_024 {
-            self.enter_block(index)?;
-        }
-        for index in 0..512 {
-            self.enter_flexible(index)?;
-        }
-        Ok(())
+        (0..4_096).try_for_each(|index| self.enter_hourly(index))?;
+        (0..1_024).try_for_each(|index| self.enter_block(index))?;
+        (0..512).try_for_each(|index| self.enter_flexible(index))
     }
 
     /// Withdraws an hourly bid and enters it again.

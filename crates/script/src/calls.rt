@@ -1,10 +1,11 @@
 //! What the lines of a day ask for.
 
-use crate::lines::{HourlyDraft, Kind, Line};
+use crate::lines::{Kind, Line};
 use bids::HourlyBid;
 use console::Failure;
 use day::Call;
 use docket::{Agenda, Subject};
+use merit::Draft;
 
 /// Adds what a line asks for to the agenda of a day, if anything.
 pub fn add(agenda: &mut Agenda, number: usize, line: Line) -> Result<(), Failure> {
@@ -21,7 +22,7 @@ pub fn add(agenda: &mut Agenda, number: usize, line: Line) -> Result<(), Failure
 }
 
 /// Adds an hourly bid: a call where its curve is made, and else the refusal of that.
-fn add_hourly(agenda: &mut Agenda, number: usize, draft: &HourlyDraft) -> Result<(), Failure> {
+fn add_hourly(agenda: &mut Agenda, number: usize, draft: &HourlyBid<Draft>) -> Result<(), Failure> {
     match draft.curve.make() {
         Ok(curve) => {
             let bid = HourlyBid {

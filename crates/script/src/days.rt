@@ -5,25 +5,23 @@ use crate::lines::Line;
 use crate::reading::read_line;
 use crate::report;
 use console::{Failure, Reason};
-use docket::{Agenda, Answer, Evening, Hindrance, Subject, Tables};
-use market::{Limits, Refusal};
+use docket::{Agenda, Answer, Denial, Evening, Hindrance, Opening, Subject, Tables};
+use market::Limits;
 
 /// Runs a script: prints the answers to its calls, and then the report on the day that stands at its end.
 pub fn run(rt: &HostRuntime, script: &str) -> Result<(), Failure> {
-    let mut agenda: Option<Agenda> = None;
-    let mut number: usize = 0;
-    for text in script.lines() {
-        number = number.saturating_add(1);
+    let mut days = Days { rt, agenda: None };
+    for (number, text) in (1..).zip(script.lines()) {
         match read_line(rt.alloc(), text) {
             Ok(None) => {}
-            Ok(Some(line)) => agenda = follow(rt, number, line, agenda)?,
+            Ok(Some(line)) => days.follow(number, line)?,
             Err(reason) => {
-                let _ = finish(rt, agenda)?;
+                let _ = days.finish()?;
                 return Err(Failure::Line(number, reason));
             }
         }
     }
-    let evening = finish(rt, agenda)?;
+    let evening = days.finish()?;
     println!(rt; "")?;
     match evening {
         Some(evening) => report::print(rt, &evening),
@@ -34,96 +32,84 @@ pub fn run(rt: &HostRuntime, script: &str) -> Result<(), Failure> {
     }
 }
 
-/// The agenda after one more line. A line that opens another day has the day before it run and answered.
-fn follow(
-    rt: &HostRuntime,
-    number: usize,
-    line: Line,
+/// The days of a script: where their answers go, and the agenda of the day that stands, if one was opened.
+#[derive(Drop)]
+struct Days<'a> {
+    rt: &'a HostRuntime,
     agenda: Option<Agenda>,
-) -> Result<Option<Agenda>, Failure> {
-    if let Line::Open(opening) = line {
-        return match Limits::new(opening.lowest, opening.highest) {
-            Ok(_) => {
-                let _ = finish(rt, agenda)?;
-                Ok(Some(Agenda::new(rt.alloc(), number, opening)))
-            }
-            Err(refusal) => refuse(rt, number, agenda, refusal),
+}
+
+impl Days<'_> {
+    /// Takes up one more line.
+    fn follow(&mut self, number: usize, line: Line) -> Result<(), Failure> {
+        if let Line::Open(opening) = line {
+            return self.open(number, opening);
+        }
+        match &mut self.agenda {
+            Some(agenda) => add(agenda, number, line),
+            None if matches!(line, Line::Set(_)) => Ok(()),
+            None => self.print_answer(number, Err(Denial::NotAllowed(Hindrance::NoDay))),
+        }
+    }
+
+    /// Opens another day, after the day before it is run and answered. An opening that is refused leaves the day that
+    /// stands.
+    fn open(&mut self, number: usize, opening: Opening) -> Result<(), Failure> {
+        if let Err(refusal) = Limits::new(opening.lowest, opening.highest) {
+            return match &mut self.agenda {
+                Some(agenda) => agenda.ask(number, Subject::RefusedOpening(refusal)),
+                None => self.print_answer(number, Err(Denial::Refused(refusal))),
+            };
+        }
+        let _ = self.finish()?;
+        self.agenda = Some(Agenda::new(self.rt.alloc(), number, opening));
+        Ok(())
+    }
+
+    /// Runs the day that stands and prints the answers to its lines.
+    fn finish(&mut self) -> Result<Option<Evening>, Failure> {
+        let Some(mut agenda) = self.agenda.take() else {
+            return Ok(None);
         };
+        let line = agenda.line;
+        let mut tables = Tables::new(self.rt.alloc(), &agenda.opening).map_err(|_| Failure::Line(
+            line,
+            Reason::Tables,
+        ))?;
+        let day = day::run(
+            agenda.opening.lowest,
+            agenda.opening.highest,
+            tables.hourly.as_mut_slice(),
+            tables.blocks.as_mut_slice(),
+            tables.flexible.as_mut_slice(),
+            agenda.steps.as_mut_slice(),
+        )
+        .map_err(|refusal| Failure::Line(line, Reason::LimitsRefused(refusal)))?;
+        self.print_answers(&agenda)?;
+        Ok(Some(Evening { day, tables }))
     }
-    match agenda {
-        Some(mut agenda) => {
-            add(&mut agenda, number, line)?;
-            Ok(Some(agenda))
-        }
-        None => {
-            if !matches!(line, Line::Set(_)) {
-                print_answer(rt, number, Answer::NotAllowed(Hindrance::NoDay))?;
+
+    /// Prints the answers to the lines of a day that was run.
+    fn print_answers(&self, agenda: &Agenda) -> Result<(), Failure> {
+        self.print_answer(agenda.line, Ok(()))?;
+        let mut is_closed = false;
+        for question in agenda.questions.iter() {
+            let answer = agenda.answer(question.subject, is_closed);
+            self.print_answer(question.line, answer)?;
+            if matches!(question.subject, Subject::Close(_)) && answer.is_ok() {
+                is_closed = true;
             }
-            Ok(None)
         }
+        Ok(())
     }
-}
 
-/// The agenda after a line whose opening is refused, which leaves the day that stands.
-fn refuse(
-    rt: &HostRuntime,
-    number: usize,
-    agenda: Option<Agenda>,
-    refusal: Refusal,
-) -> Result<Option<Agenda>, Failure> {
-    match agenda {
-        Some(mut agenda) => {
-            agenda.ask(number, Subject::RefusedOpening(refusal))?;
-            Ok(Some(agenda))
+    /// Prints the answer to a line.
+    fn print_answer(&self, number: usize, answer: Answer) -> Result<(), Failure> {
+        let rt = self.rt;
+        match answer {
+            Ok(()) => println!(rt; "{number} ok")?,
+            Err(denial) => println!(rt; "{number} {denial}")?,
         }
-        None => {
-            print_answer(rt, number, Answer::Refused(refusal))?;
-            Ok(None)
-        }
+        Ok(())
     }
-}
-
-/// Runs a day and prints the answers to its lines.
-fn finish(rt: &HostRuntime, agenda: Option<Agenda>) -> Result<Option<Evening>, Failure> {
-    let Some(mut agenda) = agenda else {
-        return Ok(None);
-    };
-    let Ok(mut tables) = Tables::new(rt.alloc(), &agenda.opening) else {
-        return Err(Failure::Line(agenda.line, Reason::Tables));
-    };
-    let ran = day::run(
-        agenda.opening.lowest,
-        agenda.opening.highest,
-        tables.hourly.as_mut_slice(),
-        tables.blocks.as_mut_slice(),
-        tables.flexible.as_mut_slice(),
-        agenda.steps.as_mut_slice(),
-    );
-    match ran {
-        Ok(day) => {
-            print_answers(rt, &agenda)?;
-            Ok(Some(Evening { day, tables }))
-        }
-        Err(refusal) => Err(Failure::Line(agenda.line, Reason::LimitsRefused(refusal))),
-    }
-}
-
-/// Prints the answers to the lines of a day that was run.
-fn print_answers(rt: &HostRuntime, agenda: &Agenda) -> Result<(), Failure> {
-    print_answer(rt, agenda.line, Answer::Done)?;
-    let mut is_closed = false;
-    for question in agenda.questions.iter() {
-        let answer = agenda.answer(question.subject, is_closed);
-        print_answer(rt, question.line, answer)?;
-        if matches!(question.subject, Subject::Close(_)) && answer.is_done() {
-            is_closed = true;
-        }
-    }
-    Ok(())
-}
-
-/// Prints the answer to a line.
-fn print_answer(rt: &HostRuntime, number: usize, answer: Answer) -> Result<(), Failure> {
-    println!(rt; "{number} {answer}")?;
-    Ok(())
 }

@@ -1,34 +1,26 @@
 //! Lines that enter a bid.
 
-use crate::lines::{HourlyDraft, Kind, Line};
-use bids::{BlockBid, FlexibleBid};
+use crate::lines::{Kind, Line};
+use bids::{BlockBid, FlexibleBid, HourlyBid};
 use console::{Cursor, Reason, Wanted, read_draft};
+use merit::Draft;
+use std::str::FromStr;
 
 /// The bid of a line that enters one.
 pub fn read_entry(words: &mut Cursor<'_, '_>) -> Result<Line, Reason> {
-    match read_kind(words)? {
+    match words.read(Wanted::Kind)? {
         Kind::Hourly => Ok(Line::EnterHourly(read_hourly(words)?)),
         Kind::Block => Ok(Line::EnterBlock(read_block(words)?)),
         Kind::Flexible => Ok(Line::EnterFlexible(read_flexible(words)?)),
     }
 }
 
-/// A kind of bid.
-pub fn read_kind(words: &mut Cursor<'_, '_>) -> Result<Kind, Reason> {
-    match words.take(Wanted::Kind)? {
-        "hourly" => Ok(Kind::Hourly),
-        "block" => Ok(Kind::Block),
-        "flexible" => Ok(Kind::Flexible),
-        word => Err(words.is_no(word, Wanted::Kind)),
-    }
-}
-
-/// An hourly bid: `NUMBER PARTICIPANT HOUR CURVE`.
-fn read_hourly(words: &mut Cursor<'_, '_>) -> Result<HourlyDraft, Reason> {
-    Ok(HourlyDraft {
-        number: words.number(Wanted::Number)?,
-        participant: words.number(Wanted::Participant)?,
-        hour: words.number(Wanted::Hour)?,
+/// An hourly bid whose curve is not made yet: `NUMBER PARTICIPANT HOUR CURVE`.
+fn read_hourly(words: &mut Cursor<'_, '_>) -> Result<HourlyBid<Draft>, Reason> {
+    Ok(HourlyBid {
+        number: words.read(Wanted::Number)?,
+        participant: words.read(Wanted::Participant)?,
+        hour: words.read(Wanted::Hour)?,
         curve: read_draft(words)?,
     })
 }
@@ -36,33 +28,39 @@ fn read_hourly(words: &mut Cursor<'_, '_>) -> Result<HourlyDraft, Reason> {
 /// A block: `NUMBER PARTICIPANT PRICE FIRST HOURS PARENT Q ..`.
 fn read_block(words: &mut Cursor<'_, '_>) -> Result<BlockBid, Reason> {
     Ok(BlockBid {
-        number: words.number(Wanted::Number)?,
-        participant: words.number(Wanted::Participant)?,
-        price: words.number(Wanted::Price)?,
-        first: words.number(Wanted::Hour)?,
-        hours: words.number(Wanted::HourCount)?,
-        parent: read_parent(words)?,
+        number: words.read(Wanted::Number)?,
+        participant: words.read(Wanted::Participant)?,
+        price: words.read(Wanted::Price)?,
+        first: words.read(Wanted::Hour)?,
+        hours: words.read(Wanted::HourCount)?,
+        parent: read_unless_dash(words, Wanted::Parent)?,
         quantities: read_quantities(words)?,
     })
 }
 
-/// The parent of a block: a number, or `-` for none.
-fn read_parent(words: &mut Cursor<'_, '_>) -> Result<Option<u16>, Reason> {
+/// The next word, or nothing where it is `-`.
+pub(crate) fn read_unless_dash<T: FromStr + Drop>(
+    words: &mut Cursor<'_, '_>,
+    wanted: Wanted,
+) -> Result<Option<T>, Reason>
+where
+    T::Err: Drop,
+{
     if words.take_if("-") {
         return Ok(None);
     }
-    Ok(Some(words.number(Wanted::Parent)?))
+    Ok(Some(words.read(wanted)?))
 }
 
 /// A flexible bid: `NUMBER PARTICIPANT PRICE START LENGTH DURATION Q ..`.
 fn read_flexible(words: &mut Cursor<'_, '_>) -> Result<FlexibleBid, Reason> {
     Ok(FlexibleBid {
-        number: words.number(Wanted::Number)?,
-        participant: words.number(Wanted::Participant)?,
-        price: words.number(Wanted::Price)?,
-        start: words.number(Wanted::Hour)?,
-        length: words.number(Wanted::HourCount)?,
-        duration: words.number(Wanted::HourCount)?,
+        number: words.read(Wanted::Number)?,
+        participant: words.read(Wanted::Participant)?,
+        price: words.read(Wanted::Price)?,
+        start: words.read(Wanted::Hour)?,
+        length: words.read(Wanted::HourCount)?,
+        duration: words.read(Wanted::HourCount)?,
         quantities: read_quantities(words)?,
     })
 }
@@ -74,7 +72,7 @@ fn read_quantities<const MOST: usize>(words: &mut Cursor<'_, '_>) -> Result<[i32
         if words.is_at_end() {
             break;
         }
-        *quantity = words.number(Wanted::Quantity)?;
+        *quantity = words.read(Wanted::Quantity)?;
     }
     if words.is_at_end() {
         Ok(quantities)

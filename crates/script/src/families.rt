@@ -26,13 +26,9 @@ impl Family {
 
 /// The numbers of the blocks whose parent is among parents.
 fn children_of(heap: Global, blocks: &[BlockBid], parents: &[u16]) -> Result<Vec<u16>, AllocError> {
-    let mut children = Vec::new(heap);
-    for block in blocks {
-        if let Some(parent) = block.parent {
-            if parents.contains(&parent) {
-                children.push(block.number)?;
-            }
-        }
-    }
-    Ok(children)
+    blocks
+        .iter()
+        .filter(|block| block.parent.is_some_and(|parent| parents.contains(&parent)))
+        .map(|block| block.number)
+        .collect(heap)
 }

@@ -1,26 +1,24 @@
 //! From text to lines.
 
-use crate::entries::{read_entry, read_kind};
+use crate::entries::{read_entry, read_unless_dash};
 use crate::lines::{Extract, Line, ProposalPart, Window};
 use console::{Cursor, Reason, Wanted, words_of};
-use docket::{Opening, Places};
+use docket::Opening;
+use register::Counts;
 use std::alloc::Global;
 
 /// The places of a day's tables where its opening names none.
-pub const USUAL_PLACES: Places = Places {
+pub const USUAL_PLACES: Counts = Counts {
     hourly: 4_096,
     blocks: 1_024,
     flexible: 512,
 };
 
-/// The start that stands for none.
+/// The number that stands in a script for no start, as `-` does.
 const NO_START: u8 = 255;
 
 /// What a line says, if it is not blank and no comment, or why it cannot be read.
 pub fn read_line(heap: Global, text: &str) -> Result<Option<Line>, Reason> {
-    if text.starts_with('#') {
-        return Ok(None);
-    }
     let words = words_of(heap, text)?;
     let mut words = Cursor {
         heap,
@@ -40,14 +38,23 @@ fn read_call(words: &mut Cursor<'_, '_>) -> Result<Line, Reason> {
         "open" => Ok(Line::Open(read_opening(words)?)),
         "enter" => read_entry(words),
         "withdraw" => {
-            let kind = read_kind(words)?;
-            Ok(Line::Withdraw(kind, words.number(Wanted::Number)?))
+            let kind = words.read(Wanted::Kind)?;
+            Ok(Line::Withdraw(kind, words.read(Wanted::Number)?))
         }
         "close" => Ok(Line::Close),
         "prices" => Ok(Line::Set(ProposalPart::Prices(read_prices(words)?))),
-        "matches" => Ok(Line::Set(ProposalPart::Matches(read_matches(words)?))),
-        "marks" => Ok(Line::Set(ProposalPart::Marks(read_marks(words)?))),
-        "starts" => Ok(Line::Set(ProposalPart::Starts(read_starts(words)?))),
+        "matches" => {
+            let matches = read_each(words, |words| words.read(Wanted::Match))?;
+            Ok(Line::Set(ProposalPart::Matches(matches)))
+        },
+        "marks" => {
+            let marks = read_each(words, |words| words.read(Wanted::Mark))?;
+            Ok(Line::Set(ProposalPart::Marks(marks)))
+        },
+        "starts" => {
+            let starts = read_each(words, |words| read_start(words))?;
+            Ok(Line::Set(ProposalPart::Starts(starts)))
+        },
         "propose" => Ok(Line::Propose),
         "lines" => Ok(Line::Lines(read_extract(words)?)),
         word => Err(words.is_no(word, Wanted::Call)),
@@ -56,8 +63,8 @@ fn read_call(words: &mut Cursor<'_, '_>) -> Result<Line, Reason> {
 
 /// What a day is opened with: `PMIN PMAX`, then maybe `tables H B F`, and after that maybe `record M K S`.
 fn read_opening(words: &mut Cursor<'_, '_>) -> Result<Opening, Reason> {
-    let lowest = words.number(Wanted::Price)?;
-    let highest = words.number(Wanted::Price)?;
+    let lowest = words.read(Wanted::Price)?;
+    let highest = words.read(Wanted::Price)?;
     let mut tables = USUAL_PLACES;
     let mut record = USUAL_PLACES;
     if words.take_if("tables") {
@@ -76,11 +83,11 @@ fn read_opening(words: &mut Cursor<'_, '_>) -> Result<Opening, Reason> {
 }
 
 /// Three counts of places.
-fn read_places(words: &mut Cursor<'_, '_>) -> Result<Places, Reason> {
-    Ok(Places {
-        hourly: words.number(Wanted::Places)?,
-        blocks: words.number(Wanted::Places)?,
-        flexible: words.number(Wanted::Places)?,
+fn read_places(words: &mut Cursor<'_, '_>) -> Result<Counts, Reason> {
+    Ok(Counts {
+        hourly: words.read(Wanted::Places)?,
+        blocks: words.read(Wanted::Places)?,
+        flexible: words.read(Wanted::Places)?,
     })
 }
 
@@ -88,55 +95,43 @@ fn read_places(words: &mut Cursor<'_, '_>) -> Result<Places, Reason> {
 fn read_prices(words: &mut Cursor<'_, '_>) -> Result<[u32; 24], Reason> {
     let mut prices = [0; 24];
     for price in prices.iter_mut() {
-        *price = words.number(Wanted::Price)?;
+        *price = words.read(Wanted::Price)?;
     }
     Ok(prices)
 }
 
-/// The matches of a proposal.
-fn read_matches(words: &mut Cursor<'_, '_>) -> Result<Vec<i32>, Reason> {
-    let mut matches = Vec::new(words.heap);
-    for _ in 0..words.rest.len() {
-        matches.push(words.number(Wanted::Match)?)?;
+/// What the words up to the end of the line are read as, one by one.
+fn read_each<T: Drop, F: Fn(&mut Cursor<'_, '_>) -> Result<T, Reason>>(
+    words: &mut Cursor<'_, '_>,
+    read: F,
+) -> Result<Vec<T>, Reason>
+    requires { F.IsAlwaysCallable read }
+{
+    let mut items = Vec::new(words.heap);
+    for _ in words.rest {
+        items.push(read(words)?)?;
     }
-    Ok(matches)
+    Ok(items)
 }
 
-/// The marks of a proposal.
-fn read_marks(words: &mut Cursor<'_, '_>) -> Result<Vec<u8>, Reason> {
-    let mut marks = Vec::new(words.heap);
-    for _ in 0..words.rest.len() {
-        marks.push(words.number(Wanted::Mark)?)?;
-    }
-    Ok(marks)
-}
-
-/// The starts of a proposal, each a number or `-` for none.
-fn read_starts(words: &mut Cursor<'_, '_>) -> Result<Vec<u8>, Reason> {
-    let mut starts = Vec::new(words.heap);
-    for _ in 0..words.rest.len() {
-        let start = if words.take_if("-") {
-            NO_START
-        } else {
-            words.number(Wanted::Start)?
-        };
-        starts.push(start)?;
-    }
-    Ok(starts)
+/// A start of a proposal, or none where it is `-`, or the number that stands for none.
+fn read_start(words: &mut Cursor<'_, '_>) -> Result<Option<u8>, Reason> {
+    let start = read_unless_dash(words, Wanted::Start)?;
+    Ok(start.filter(|start| *start != NO_START))
 }
 
 /// Which settlement lines are asked for: `HOUR`, then maybe `from F of N`.
 fn read_extract(words: &mut Cursor<'_, '_>) -> Result<Extract, Reason> {
-    let hour = words.number(Wanted::Hour)?;
+    let hour = words.read(Wanted::Hour)?;
     if !words.take_if("from") {
         return Ok(Extract { hour, window: None });
     }
-    let from = words.number(Wanted::LineNumber)?;
+    let from = words.read(Wanted::LineNumber)?;
     if !words.take_if("of") {
         let word = words.take(Wanted::Of)?;
         return Err(words.is_no(word, Wanted::Of));
     }
-    let length = words.number(Wanted::LineNumber)?;
+    let length = words.read(Wanted::LineNumber)?;
     Ok(Extract {
         hour,
         window: Some(Window { from, length }),

@@ -4,10 +4,11 @@ use crate::families::Family;
 use bids::{BlockBid, HourlyBid};
 use console::Failure;
 use day::Day;
-use docket::{Evening, Holding, Offers};
+use docket::{Evening, Offers, has_none, holding_of};
 use market::Limits;
 use merit::BidCurve;
 use register::ordered::HIGHEST_PARTICIPANT;
+use register::{Counts, Tables};
 use std::alloc::{AllocError, Global};
 
 /// Prints the whole report.
@@ -17,8 +18,7 @@ pub fn print(rt: &HostRuntime, evening: &Evening) -> Result<(), Failure> {
         Day::Closed(_) => "closed",
     };
     let limits = evening.day.limits();
-    let lowest = limits.lowest;
-    let highest = limits.highest;
+    let Limits { lowest, highest } = limits;
     println!(rt; "The day is {state}, with limits of {lowest} and {highest} kuruş per MWh.")?;
     print_counts(rt, evening)?;
     print_holdings(rt, evening)?;
@@ -28,14 +28,11 @@ pub fn print(rt: &HostRuntime, evening: &Evening) -> Result<(), Failure> {
 
 /// Prints how many bids of each kind stand.
 fn print_counts(rt: &HostRuntime, evening: &Evening) -> Result<(), Failure> {
-    let hourly = evening.hourly().len();
-    let blocks = evening.blocks().len();
-    let flexible = evening.flexible().len();
     println!(rt; "")?;
     println!(rt; "Bids that stand")?;
-    println!(rt; "{:<11}  {hourly:>8}", "hourly")?;
-    println!(rt; "{:<11}  {blocks:>8}", "block")?;
-    println!(rt; "{:<11}  {flexible:>8}", "flexible")?;
+    println!(rt; "{:<11}  {:>8}", "hourly", evening.hourly().len())?;
+    println!(rt; "{:<11}  {:>8}", "block", evening.blocks().len())?;
+    println!(rt; "{:<11}  {:>8}", "flexible", evening.flexible().len())?;
     Ok(())
 }
 
@@ -47,15 +44,19 @@ fn print_holdings(rt: &HostRuntime, evening: &Evening) -> Result<(), Failure> {
         "{:>11}  {:>8}  {:>8}  {:>8}",
         "participant", "hourly", "block", "flexible"
     )?;
-    let hourly_bids = evening.hourly();
-    let block_bids = evening.blocks();
-    let flexible_bids = evening.flexible();
+    let standing = Tables {
+        hourly: evening.hourly(),
+        blocks: evening.blocks(),
+        flexible: evening.flexible(),
+    };
     for participant in 0..=HIGHEST_PARTICIPANT {
-        let holding = Holding::of(hourly_bids, block_bids, flexible_bids, participant);
-        if !holding.is_empty() {
-            let hourly = holding.hourly;
-            let blocks = holding.blocks;
-            let flexible = holding.flexible;
+        let holding = holding_of(standing, participant);
+        if !has_none(holding) {
+            let Counts {
+                hourly,
+                blocks,
+                flexible,
+            } = holding;
             println!(rt; "{participant:>11}  {hourly:>8}  {blocks:>8}  {flexible:>8}")?;
         }
     }
@@ -67,15 +68,14 @@ fn print_families(rt: &HostRuntime, blocks: &[BlockBid]) -> Result<(), Failure> 
     println!(rt; "")?;
     println!(rt; "Families of blocks, by number")?;
     println!(rt; "{:>11}  {:<19}  below those", "head", "below the head")?;
+    // Counted in the pass that prints the others, and not by a chain of its own.
     let mut alone: u32 = 0;
-    for block in blocks {
-        if block.parent.is_none() {
-            let family = Family::of(rt.alloc(), blocks, block.number)?;
-            if family.children.is_empty() {
-                alone = alone.saturating_add(1);
-            } else {
-                print_family(rt, &family)?;
-            }
+    for head in blocks.iter().filter(|block| block.parent.is_none()) {
+        let family = Family::of(rt.alloc(), blocks, head.number)?;
+        if family.children.is_empty() {
+            alone = alone.saturating_add(1);
+        } else {
+            print_family(rt, &family)?;
         }
     }
     println!(rt; "Blocks that stand alone: {alone}")?;
@@ -96,14 +96,11 @@ fn listed(heap: Global, numbers: &[u16]) -> Result<String, AllocError> {
     if numbers.is_empty() {
         return String::from_str(heap, "-");
     }
-    let mut text = String::new(heap);
-    for (index, number) in numbers.iter().enumerate() {
-        if index > 0 {
-            text.push(' ')?;
-        }
-        text.push_str(number.to_string(heap)?.as_str())?;
-    }
-    Ok(text)
+    let numbers: Vec<String> = numbers
+        .iter()
+        .map(|number| number.to_string(heap))
+        .try_collect(heap)?;
+    numbers.join(heap, " ")
 }
 
 /// Prints what the hourly bids of each hour offer.
@@ -121,10 +118,11 @@ fn print_offers(
         "hour", "bids", "bought", "sold"
     )?;
     for hour in 0..24 {
-        let offers = Offers::of(hourly, limits, hour);
-        let count = offers.count;
-        let bought = offers.bought;
-        let sold = offers.sold;
+        let Offers {
+            count,
+            bought,
+            sold,
+        } = Offers::of(hourly, limits, hour);
         println!(rt; "{hour:>11}  {count:>8}  {bought:>12}  {sold:>12}")?;
     }
     Ok(())

@@ -1,4 +1,6 @@
-use Rattle.std.proofs.Common.{◌≡◌, ◌+◌, ◌-◌, ◌/◌, arith}
+use Rattle.std.proofs.Common.{◌≡◌, ◌-◌, ◌<◌, ◌≤◌, ⊎_elim, arith, rules}
+use Rattle.std.proofs.Math.Path.{subst}
+use Rattle.std.proofs.lemmas.Bool.{cases_lt}
 use Rattle.market.specs.Lots.{traded}
 use Rattle.market.specs.declared.sides.Side.TheVariants.{Selling}
 use Rattle.curve.proofs.Worths.{ordered}
@@ -11,22 +13,18 @@ returns-then-lots-lot g c =
     let lots-is : c.lots.result ≡ traded Selling (q c.args.limits.highest) = lots_of Selling _ _ _ c.lots.ensures c.quantity.type_inv c.quantity.ensures in
     selling_none q (g.met.C.PriceCurve.kept c.args.curve.now).never_rises c.args.limits c.args.lot (omega arith)
 
-pub loop-low-init : goal.loop-low-init
-loop-low-init g c =
-    let q = g.C.PriceCurve.meaning c.args.curve.now in
-    let o = ordered c.args.limits c.requires.1 in
-    let lots-is : c.lots.result ≡ traded Selling (q c.args.limits.highest) = lots_of Selling _ _ _ c.lots.ensures c.quantity.type_inv c.quantity.ensures in
-    (omega arith, omega (arith, o.below), omega arith, omega arith, λ p under from. absurd (omega arith))
-
-pub loop-low-preserved-then-lots-lot-2 : goal.loop-low-preserved-then-lots-lot-2
-loop-low-preserved-then-lots-lot-2 g c =
-    let q = g.C.PriceCurve.meaning c.args.curve.now in
-    let middle = c.loop-low.low + (c.loop-low.high - c.loop-low.low) / 2 in
-    let lots-is : c.lots-in-loop-low.result ≡ traded Selling (q middle) = lots_of Selling _ _ _ c.lots-in-loop-low.ensures c.quantity-in-loop-low.type_inv c.quantity-in-loop-low.ensures in
-    (omega arith, omega arith, omega arith, c.loop-low.invariant.3, λ p under from. let fewer = sold_rises q (g.met.C.PriceCurve.kept c.args.curve.now).never_rises p middle (omega arith) in omega arith)
-
 pub returns : goal.returns
 returns g c =
     let q = g.C.PriceCurve.meaning c.args.curve.now in
-    let inv = c.loop-low.invariant in
-    selling_some q (g.met.C.PriceCurve.kept c.args.curve.now).never_rises c.args.limits c.args.lot c.requires.1 c.requires.0 c.loop-low.high (omega arith) inv.2 inv.3 (λ p under from. inv.4 p (omega arith) from)
+    let first = c.first_from-first.result in
+    let before : c.args.limits.lowest < first → traded Selling (q (first - 1)) < c.args.lot = λ h. let t = c.first_from-first.ensures.fails_before h in search rules in
+    let there : first < c.args.limits.highest → c.args.lot ≤ traded Selling (q first) = λ h. let t = c.first_from-first.ensures.passes_there h in search rules in
+    let o = ordered c.args.limits c.requires.are_lawful in
+    let from = c.first_from-first.ensures.from_low in
+    let to = c.first_from-first.ensures.to_high in
+    let lots-is : c.lots.result ≡ traded Selling (q c.args.limits.highest) = lots_of Selling _ _ _ c.lots.ensures c.quantity.type_inv c.quantity.ensures in
+    let upto : first ≤ c.args.limits.highest = omega (arith, o.below) in
+    let enough : c.args.lot ≤ traded Selling (q first) = ⊎_elim there (λ le. subst (λ p. c.args.lot ≤ traded Selling (q p)) (let same : c.args.limits.highest ≡ first = omega arith in same) (omega arith)) (cases_lt first c.args.limits.highest) in
+    selling_some q (g.met.C.PriceCurve.kept c.args.curve.now).never_rises c.args.limits c.args.lot c.requires.are_lawful c.requires.counted first from upto enough (
+    λ p under above. let few = before (omega arith) in let fewer = sold_rises q (g.met.C.PriceCurve.kept c.args.curve.now).never_rises p (first - 1) (omega arith) in omega arith
+    )

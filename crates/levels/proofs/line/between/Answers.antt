@@ -40,19 +40,19 @@ scaled_moderate a b p l = record { low = omega (arith, ints, l.whole.low, l.whol
 
 pub overflow_mul-scaled : goal.overflow_mul-scaled
 overflow_mul-scaled c =
-    let l = line c.args.from c.args.to c.args.price c.requires.0 c.requires.1.0 c.requires.1.1 in
+    let l = line c.args.from c.args.to c.args.price c.requires.from_bounded c.requires.to_follows c.requires.before_to in
     let e = whole_is c.args.from.quantity (span c.args.from c.args.to) l.from_within (omega (arith, l.short)) in
     omega (arith, ints, l.whole.low, l.whole.high)
 
 pub overflow_mul-scaled-2 : goal.overflow_mul-scaled-2
 overflow_mul-scaled-2 c =
-    let l = line c.args.from c.args.to c.args.price c.requires.0 c.requires.1.0 c.requires.1.1 in
+    let l = line c.args.from c.args.to c.args.price c.requires.from_bounded c.requires.to_follows c.requires.before_to in
     let e = part_is c.args.from.quantity c.args.to.quantity c.saturating_sub-past.result (c.args.price - c.args.from.price) l.from_within l.to_within c.saturating_sub-past.ensures (omega arith) in
     omega (arith, ints, l.part.low, l.part.high)
 
 pub overflow_add-scaled : goal.overflow_add-scaled
 overflow_add-scaled c =
-    let l = line c.args.from c.args.to c.args.price c.requires.0 c.requires.1.0 c.requires.1.1 in
+    let l = line c.args.from c.args.to c.args.price c.requires.from_bounded c.requires.to_follows c.requires.before_to in
     let e = whole_is c.args.from.quantity (span c.args.from c.args.to) l.from_within (omega (arith, l.short)) in
     let f = part_is c.args.from.quantity c.args.to.quantity c.saturating_sub-past.result (c.args.price - c.args.from.price) l.from_within l.to_within c.saturating_sub-past.ensures (omega arith) in
     omega (arith, ints, l.whole.low, l.whole.high, l.part.low, l.part.high)
@@ -61,15 +61,15 @@ pub nearest-requires : goal.nearest-requires
 nearest-requires c =
     let a = c.args.from in
     let b = c.args.to in
-    let l = line a b c.args.price c.requires.0 c.requires.1.0 c.requires.1.1 in
+    let l = line a b c.args.price c.requires.from_bounded c.requires.to_follows c.requires.before_to in
     let e = scaled_is a b c.args.price c.saturating_sub-past.result l c.saturating_sub-past.ensures (omega arith) in
-    (omega (arith, l.rises), subst Moderate (sym e) (scaled_moderate a b c.args.price l))
+    record { positive = omega (arith, l.rises); moderate = subst Moderate (sym e) (scaled_moderate a b c.args.price l) }
 
 pub overflow_cast-result : goal.overflow_cast-result
 overflow_cast-result c =
     let a = c.args.from in
     let b = c.args.to in
-    let l = line a b c.args.price c.requires.0 c.requires.1.0 c.requires.1.1 in
+    let l = line a b c.args.price c.requires.from_bounded c.requires.to_follows c.requires.before_to in
     let e = scaled_is a b c.args.price c.saturating_sub-past.result l c.saturating_sub-past.ensures (omega arith) in
     let value : c.nearest.result ≡ between a b c.args.price = c.nearest.ensures.value ∙ ap (λ x. nearest x (span a b)) e in
     omega (arith, ints, l.not_over, l.not_under, l.from_within.low, l.from_within.high, l.to_within.low, l.to_within.high)
@@ -78,7 +78,7 @@ pub returns : goal.returns
 returns c =
     let a = c.args.from in
     let b = c.args.to in
-    let l = line a b c.args.price c.requires.0 c.requires.1.0 c.requires.1.1 in
+    let l = line a b c.args.price c.requires.from_bounded c.requires.to_follows c.requires.before_to in
     let e = scaled_is a b c.args.price c.saturating_sub-past.result l c.saturating_sub-past.ensures (omega arith) in
     let value : c.nearest.result ≡ between a b c.args.price = c.nearest.ensures.value ∙ ap (λ x. nearest x (span a b)) e in
     let fits : to_z w32 (of_z w32 (to_z w64 (of_z w64 c.nearest.result))) ≡ c.nearest.result = omega (arith, ints, l.not_over, l.not_under, l.from_within.low, l.from_within.high, l.to_within.low, l.to_within.high) in

@@ -11,16 +11,16 @@ use Rattle.levels.proofs.steps.greatest_buying.Goals as goal
 pub returns-then-lots-lot : goal.returns-then-lots-lot
 returns-then-lots-lot c =
     let ls = c.args.levels.now in
-    let f : Formed ls = record { some = c.requires.1.1.1; keeps = c.requires.1.1.0 } in
+    let f : Formed ls = record { some = c.requires.any; keeps = c.requires.keeps } in
     let q = (get_or ls 0 zero_level).quantity in
     let fits : SFits w32 q = search rules in
     let first-lots = lots_of Buying c.lots.result q q c.lots.ensures fits.sfits refl in
-    buying_first ls f c.args.limits c.args.lot c.requires.0 c.requires.1.0 (omega arith)
+    buying_first ls f c.args.limits c.args.lot c.requires.are_lawful c.requires.counted (omega arith)
 
 pub returns-then-level-limits : goal.returns-then-level-limits
 returns-then-level-limits c =
     let ls = c.args.levels.now in
-    let f : Formed ls = record { some = c.requires.1.1.1; keeps = c.requires.1.1.0 } in
+    let f : Formed ls = record { some = c.requires.any; keeps = c.requires.keeps } in
     let later = take (length ls - 1) (drop 1 ls) in
     let q = (get_or ls 0 zero_level).quantity in
     let fits : SFits w32 q = search rules in
@@ -29,12 +29,12 @@ returns-then-level-limits c =
     let r = (get_or later i zero_level).quantity in
     let fits-here : SFits w32 r = search rules in
     let lots-here = lots_of Buying c.lots-in-loop-level.result r r c.lots-in-loop-level.ensures fits-here.sfits refl in
-    buying_nowhere ls f c.args.limits c.args.lot c.requires.0 c.requires.1.0 (omega arith) i (omega arith) c.loop-level.invariant c.loop-level-test.true (omega arith) (omega arith)
+    buying_nowhere ls f c.args.limits c.args.lot c.requires.are_lawful c.requires.counted (omega arith) i (omega arith) c.loop-level.invariant c.loop-level-test.true (omega arith) (omega arith)
 
 pub returns-then-lots-lot-2 : goal.returns-then-lots-lot-2
 returns-then-lots-lot-2 c =
     let ls = c.args.levels.now in
-    let f : Formed ls = record { some = c.requires.1.1.1; keeps = c.requires.1.1.0 } in
+    let f : Formed ls = record { some = c.requires.any; keeps = c.requires.keeps } in
     let later = take (length ls - 1) (drop 1 ls) in
     let q = (get_or ls 0 zero_level).quantity in
     let fits : SFits w32 q = search rules in
@@ -43,15 +43,15 @@ returns-then-lots-lot-2 c =
     let r = (get_or later i zero_level).quantity in
     let fits-here : SFits w32 r = search rules in
     let lots-here = lots_of Buying c.lots-in-loop-level.result r r c.lots-in-loop-level.ensures fits-here.sfits refl in
-    subst (λ o. WorthIs (steps_of ls) c.args.limits Buying c.args.lot (Some o)) (sym c.min.ensures) (buying_below ls f c.args.limits c.args.lot c.requires.0 c.requires.1.0 (omega arith) i (omega arith) c.loop-level.invariant c.loop-level-test.true (omega arith) (omega arith))
+    subst (λ o. WorthIs (steps_of ls) c.args.limits Buying c.args.lot (Some o)) (sym c.min.ensures) (buying_below ls f c.args.limits c.args.lot c.requires.are_lawful c.requires.counted (omega arith) i (omega arith) c.loop-level.invariant c.loop-level-test.true (omega arith) (omega arith))
 
 pub returns : goal.returns
 returns c =
     let ls = c.args.levels.now in
-    let f : Formed ls = record { some = c.requires.1.1.1; keeps = c.requires.1.1.0 } in
+    let f : Formed ls = record { some = c.requires.any; keeps = c.requires.keeps } in
     let later = take (length ls - 1) (drop 1 ls) in
     let q = (get_or ls 0 zero_level).quantity in
     let fits : SFits w32 q = search rules in
     let first-lots = lots_of Buying c.lots.result q q c.lots.ensures fits.sfits refl in
     let i = c.loop-level.level-index in
-    buying_all ls f c.args.limits c.args.lot c.requires.0 c.requires.1.0 (omega arith) i (omega arith) c.loop-level.invariant (omega arith)
+    buying_all ls f c.args.limits c.args.lot c.requires.are_lawful c.requires.counted (omega arith) i (omega arith) c.loop-level.invariant (omega arith)

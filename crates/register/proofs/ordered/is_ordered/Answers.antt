@@ -1,27 +1,19 @@
 use Rattle.std.proofs.Common.{◌+◌, get_or, set, sym, ap, subst, arith}
-use Rattle.register.proofs.Counted.{Counted, counted_none, counted_all, counted_more, stop_rising, stop_known, stop_few}
+use Rattle.register.proofs.Counted.{Counted, counted_none, counted_all, counted_more, stop_few}
 use Rattle.register.proofs.ordered.is_ordered.Goals as goal
-use Rattle.register.proofs.ordered.is_ordered.Goals.{then-number-last-via-then-number-last, then-number-last-via-else-number-last+then-not-is_known}
 
 pub loop-bid-init : goal.loop-bid-init
 loop-bid-init g c = counted_none g.B.Bid.kind c.args.bids.now
 
-pub returns-then-number-last : goal.returns-then-number-last
-returns-then-number-last g c =
-    elim c.then-number-last.branch [
-      | then-number-last-via-then-number-last w ↦ sym (stop_rising g.B.Bid.kind c.args.bids.now _ _ _ c.loop-bid.invariant c.bid-item.result c.loop-bid-test.true c.bid-item.is (omega (arith, c.number-number.ensures, w.if-number-last.true)))
-      | then-number-last-via-else-number-last+then-not-is_known w ↦ sym (stop_known g.B.Bid.kind c.args.bids.now _ _ _ c.loop-bid.invariant c.bid-item.result c.loop-bid-test.true c.bid-item.is (sym w.if-not-is_known.ensures))
-    ]
-
-pub returns-then-count-standing_limit : goal.returns-then-count-standing_limit
-returns-then-count-standing_limit g c =
+pub returns-then-count-MOST_STANDING : goal.returns-then-count-MOST_STANDING
+returns-then-count-MOST_STANDING g c =
     let at = ap (λ j. get_or c.loop-bid.counts j 0) c.participant-participant.ensures in
-    sym (stop_few g.B.Bid.kind c.args.bids.now _ _ _ c.loop-bid.invariant c.bid-item.result c.loop-bid-test.true c.bid-item.is (sym c.if-not-is_known.ensures) (omega (arith, at, c.standing_limit.ensures, c.if-count-standing_limit.true)))
+    sym (stop_few g.B.Bid.kind c.args.bids.now _ _ _ c.loop-bid.invariant c.bid-item.result c.loop-bid-test.true c.bid-item.is (sym c.if-not-is_known.ensures) (omega (arith, at, c.MOST_STANDING.ensures, g.met.B.Bid.standing_of_kind, c.if-count-MOST_STANDING.true)))
 
 pub loop-bid-preserved : goal.loop-bid-preserved
 loop-bid-preserved g c =
     let at = ap (λ j. get_or c.loop-bid.counts j 0) c.participant-participant.ensures in
-    let m = counted_more g.B.Bid.kind c.args.bids.now _ _ _ c.loop-bid.invariant c.bid-item.result c.loop-bid-test.true c.bid-item.is (omega (arith, c.number-number.ensures, c.if-number-last.false)) (sym c.if-not-is_known.ensures) (omega (arith, at, c.standing_limit.ensures, c.if-count-standing_limit.false)) in
+    let m = counted_more g.B.Bid.kind c.args.bids.now _ _ _ c.loop-bid.invariant c.bid-item.result c.loop-bid-test.true c.bid-item.is (omega (arith, c.number-number.ensures, c.if-number-last.false)) (sym c.if-not-is_known.ensures) (omega (arith, at, c.MOST_STANDING.ensures, g.met.B.Bid.standing_of_kind, c.if-count-MOST_STANDING.false)) in
     let n = subst (λ j. Counted g.B.Bid.kind c.args.bids.now (c.loop-bid.bid-index + 1) j (set c.loop-bid.counts (g.B.Bid.kind.participant_of c.bid-item.result) (get_or c.loop-bid.counts (g.B.Bid.kind.participant_of c.bid-item.result) 0 + 1))) (sym c.number-number.ensures) m in
     subst (λ j. Counted g.B.Bid.kind c.args.bids.now (c.loop-bid.bid-index + 1) c.number-number.result (set c.loop-bid.counts j (get_or c.loop-bid.counts j 0 + 1))) (sym c.participant-participant.ensures) n
 

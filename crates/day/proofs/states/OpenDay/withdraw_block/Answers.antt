@@ -1,10 +1,15 @@
 use Rattle.std.proofs.Common.{refl}
 use Rattle.day.specs.declared.calls.Call.TheVariants as calls
-use Rattle.day.proofs.Past.{tells_on}
+use Rattle.day.proofs.Moves.{block_part, stopped, answered}
 use Rattle.day.proofs.states.OpenDay.withdraw_block.Goals as goal
 
+pub returns-in_err-check_registers : goal.returns-in_err-check_registers
+returns-in_err-check_registers g c =
+    let d = stopped c.args.self.now (record { hourly = c.args.hourly.now; blocks = c.args.blocks.now; flexible = c.args.flexible.now }) (calls.WithdrawBlock c.args.number) refl c.from_residual.result _ c.from_residual.ensures.1 c.in_err-check_registers.ensures.value in
+    record { exact = d.0; since = d.1 }
+
 pub returns : goal.returns
-returns g c = record {
-  exact = c.take_block.ensures;
-  since = tells_on (calls.WithdrawBlock c.args.number) c.args.self.now (record { hourly = c.args.hourly.now; blocks = c.args.blocks.now; flexible = c.args.flexible.now }) c.take_block.result c.take_block.new.self _ refl c.take_block.ensures;
-}
+returns g c =
+    let e = c.withdraw.ensures in
+    let d = answered c.args.self.now (record { hourly = c.args.hourly.now; blocks = c.args.blocks.now; flexible = c.args.flexible.now }) (calls.WithdrawBlock c.args.number) refl block_part _ c.withdraw.result c.withdraw.new.count c.withdraw.new.table refl c.in_ok-check_registers.ensures.value e.value e.bids e.within e.places e.count_stays e.table_stays in
+    record { exact = d.0; since = d.1 }

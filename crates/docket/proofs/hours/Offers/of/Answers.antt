@@ -1,8 +1,8 @@
-use Rattle.std.proofs.Common.{sum_by, ap, ◌∙◌, arith, take_all}
+use Rattle.std.proofs.Common.{arith}
 use Rattle.market.specs.declared.sides.Side.TheVariants.{Buying, Selling}
 use Rattle.market.specs.Lots.{traded}
 use Rattle.docket.specs.Offers.{of_hour}
-use Rattle.docket.proofs.Sums.{sum_more, same_offers}
+use Rattle.docket.proofs.Sums.{sum_more}
 use Rattle.docket.proofs.hours.Offers.of.Goals as goal
 
 pub loop-bid-preserved : goal.loop-bid-preserved
@@ -18,12 +18,3 @@ loop-bid-preserved g c few =
     let boughts = sum_more (of_hour h (λ b. traded Buying (q b.curve limits.lowest))) bids i x c.loop-bid-test.true c.bid-item.is 1000000 _ _ _ _ c.saturating_add-bought.ensures inv.1 c.lots.ensures.bound (omega arith) inv.4 c.lots.ensures.value in
     let solds = sum_more (of_hour h (λ b. traded Selling (q b.curve limits.highest))) bids i x c.loop-bid-test.true c.bid-item.is 1000000 _ _ _ _ c.saturating_add-sold.ensures inv.2 c.lots-in-loop-bid.ensures.bound (omega arith) inv.5 c.lots-in-loop-bid.ensures.value in
     (omega (arith, counts.0), boughts.0, solds.0, counts.1, boughts.1, solds.1)
-
-pub returns : goal.returns
-returns g c few =
-    let q = g.C.PriceCurve.meaning in
-    let h = c.args.hour in
-    let limits = c.args.limits in
-    let inv = c.loop-bid.invariant few in
-    let whole = take_all c.loop-bid.bid-index c.args.bids.now c.loop-bid-test.false in
-    same_offers _ _ _ _ _ _ (inv.3 ∙ ap (sum_by (of_hour h (λ b. 1))) whole) (inv.4 ∙ ap (sum_by (of_hour h (λ b. traded Buying (q b.curve limits.lowest)))) whole) (inv.5 ∙ ap (sum_by (of_hour h (λ b. traded Selling (q b.curve limits.highest)))) whole)

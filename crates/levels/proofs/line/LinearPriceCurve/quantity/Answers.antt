@@ -16,7 +16,7 @@ between-requires c =
     let found : n ≡ around (in_force_of t) c.min-price.result = c.around-neighbours.ensures ∙ ap (λ ls. around ls c.min-price.result) c.in_force.ensures in
     let near = subst (λ (x : Neighbours). Neighbouring x c.min-price.result) (sym found) (neighbouring (in_force_of t) c.min-price.result (force_formed t)) in
     let after = subst (λ o. NextIs n.at o c.min-price.result) c.in-Some.is near.next_is in
-    (near.at_bounded, (after.0, after.1))
+    record { from_bounded = near.at_bounded; to_follows = after.0; before_to = after.1 }
 
 pub returns-in-None : goal.returns-in-None
 unfolding linear
