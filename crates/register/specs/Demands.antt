@@ -71,30 +71,38 @@ block_demands = record { alone = λ limits b. formed_rules limits (block_profile
 abbrev pub flexible_demands : Demands FlexibleBid
 flexible_demands = record { alone = λ limits b. formed_rules limits (flexible_profile b) b.number; beside = λ xs b. []; joining = λ xs b. []; leaving = λ xs n. []; together = λ limits xs. each (flexible_alone limits) xs }
 
--- by these demands the rules of a register are those of its kind
+-- by what hourly bids ask, entering one goes by the rules of entering an hourly bid
 pub enters_hourly : {C : Type 0} (limits : Limits) (room : ℕ) (xs : List (HourlyBid C)) (b : HourlyBid C) → enter_by hourly hourly_demands limits room xs b ≡ enter_hourly room xs b
 enters_hourly limits room xs b = refl
 
+-- by what blocks ask, entering one goes by the rules of entering a block
 pub enters_block : (limits : Limits) (room : ℕ) (xs : List BlockBid) (b : BlockBid) → enter_by block block_demands limits room xs b ≡ enter_block limits room xs b
 enters_block limits room xs b = refl
 
+-- by what flexible bids ask, entering one goes by the rules of entering a flexible bid
 pub enters_flexible : (limits : Limits) (room : ℕ) (xs : List FlexibleBid) (b : FlexibleBid) → enter_by flexible flexible_demands limits room xs b ≡ enter_flexible limits room xs b
 enters_flexible limits room xs b = refl
 
+-- withdrawing an hourly bid asks only that it stands
 pub leaves_hourly : {C : Type 0} (xs : List (HourlyBid C)) (n : ℕ) → withdraw_by hourly hourly_demands xs n ≡ standing_rule hourly xs n
 leaves_hourly xs n = refl
 
+-- withdrawing a block asks that it stands and no child of it does
 pub leaves_block : (xs : List BlockBid) (n : ℕ) → withdraw_by block block_demands xs n ≡ withdraw_block xs n
 leaves_block xs n = refl
 
+-- withdrawing a flexible bid asks only that it stands
 pub leaves_flexible : (xs : List FlexibleBid) (n : ℕ) → withdraw_by flexible flexible_demands xs n ≡ standing_rule flexible xs n
 leaves_flexible xs n = refl
 
+-- hourly bids may stand together by what their kind asks exactly where they are kept
 pub keeps_hourly : {C : Type 0} (limits : Limits) (xs : List (HourlyBid C)) → kept_by hourly hourly_demands limits xs ≡ hourly_kept xs
 keeps_hourly limits xs = refl
 
+-- blocks may stand together by what their kind asks exactly where they are kept
 pub keeps_blocks : (limits : Limits) (xs : List BlockBid) → kept_by block block_demands limits xs ≡ blocks_kept limits xs
 keeps_blocks limits xs = refl
 
+-- flexible bids may stand together by what their kind asks exactly where they are kept
 pub keeps_flexible : (limits : Limits) (xs : List FlexibleBid) → kept_by flexible flexible_demands limits xs ≡ flexible_kept limits xs
 keeps_flexible limits xs = refl
