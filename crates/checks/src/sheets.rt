@@ -29,5 +29,8 @@ fn the_curves_of_an_hour_are_those_of_the_bids_that_stand(rt: HostRuntime) -> Re
     let curves = sheet.curves(heap)?;
     assert_eq!(rt; curves.len(), 2);
     assert_eq!(rt; curves.get(1).map(|curve| curve.quantity(0)), Some(-7));
+    let lent = sheet.lent_curves(heap)?;
+    assert_eq!(rt; lent.len(), 2);
+    assert_eq!(rt; lent.get(1).map(|curve| curve.quantity(0)), Some(-7));
     Ok(())
 }

@@ -32,7 +32,7 @@ pub fn print<'a, T: From<Refusal> + fmt::Display + Drop>(
         println!(rt; "There are no curves.")?;
         return Ok(());
     }
-    let curves = sheet.curves(rt.alloc())?;
+    let curves = sheet.lent_curves(rt.alloc())?;
     let report = Report {
         rt,
         entries: sheet.entries.as_slice(),
@@ -72,7 +72,7 @@ fn name_width(entries: &[Entry]) -> usize {
 struct Report<'a, 'b> {
     rt: &'a HostRuntime,
     entries: &'a [Entry],
-    hour: Hour<'b, BidCurve>,
+    hour: Hour<'b, &'a BidCurve>,
     width: usize,
 }
 
@@ -90,7 +90,7 @@ impl Report<'_, '_> {
             match curve {
                 Ok(curve) => {
                     let reach = curve.reach();
-                    let LotRange { least, most } = offered_range(curve, self.hour.limits);
+                    let LotRange { least, most } = offered_range(&**curve, self.hour.limits);
                     println!(rt; "{name:<width$}  {reach:>9}  {least:>9} .. {most:>9}")?;
                 }
                 Err(refusal) => println!(rt; "{name:<width$}  refused {}", T::from(*refusal))?,
@@ -138,8 +138,8 @@ impl Report<'_, '_> {
         let standing = self.entries.iter().filter(|entry| entry.curve.is_ok());
         for ((entry, curve), lots) in standing.zip(self.hour.curves).zip(matched.iter()) {
             let name = entry.name.as_str();
-            let LotRange { least, most } = margin(curve, limits, price);
-            let left = surplus(curve, limits, price, *lots);
+            let LotRange { least, most } = margin(*curve, limits, price);
+            let left = surplus(*curve, limits, price, *lots);
             println!(rt; "{name:<width$}  {least:>9} .. {most:>9}  {lots:>9}  {left:>16}")?;
         }
         let gained = self.hour.total_gain(matched.as_slice());

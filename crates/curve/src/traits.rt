@@ -36,3 +36,26 @@ pub trait ValuedCurve: PriceCurve {
         bisected_worth(self, limits, side, lot)
     }
 }
+
+/// A curve that is lent is asked as itself.
+impl<C: PriceCurve> PriceCurve for &C {
+    ghost meaning = { λ c p. C.PriceCurve.meaning c.now p };
+
+    ghost extent = { λ c. C.PriceCurve.extent c.now };
+
+    ghost kept = { λ c. C.PriceCurve.kept c.now };
+
+    fn quantity(&self, price: u32) -> i32 {
+        (**self).quantity(price)
+    }
+
+    fn reach(&self) -> u32 {
+        (**self).reach()
+    }
+}
+
+impl<C: ValuedCurve> ValuedCurve for &C {
+    fn worth(&self, limits: Limits, side: Side, lot: u32) -> Option<u32> {
+        (**self).worth(limits, side, lot)
+    }
+}

@@ -1,5 +1,5 @@
 -- The totals and the margins of an hour go one way with the price.
-use Rattle.std.proofs.Common.{◌≡◌, ℕ, zero, suc, ◌+◌, ◌-◌, ◌<◌, ◌≤◌, max, ◌≢◌, Bool, true, false, List, [], ◌∷◌, ℤ, pos, negsuc, ◌≤ℤ◌, ◌<ℤ◌, sum_by, refl, ap, ⊎_elim, arith}
+use Rattle.std.proofs.Common.{◌≡◌, ℕ, zero, suc, ◌+◌, ◌-◌, ◌<◌, ◌≤◌, max, ◌≢◌, Bool, true, false, List, [], ◌∷◌, ℤ, pos, negsuc, ◌≤ℤ◌, ◌<ℤ◌, sum_by, Some, refl, ap, ◌∙◌, ⊎_elim, arith}
 use Rattle.std.specs.Bool.{then_some}
 use Rattle.std.specs.Int.{int_max, int_min}
 use Rattle.std.proofs.lemmas.Int.{ints, clamps}
@@ -48,13 +48,11 @@ module _ {C : Type 0} (q : C → ℕ → ℤ) (falls : (c : C) → Falls (q c)) 
       let s2 = sold_rises m r to in
       same_totals _ _ _ _ (omega arith) (omega arith)
 
-  -- the totals are the same up to next and others there, or the same up to the highest price
-  pub changes : (limits : Limits) (p next : ℕ) → p ≤ next → next ≤ max p limits.highest → (p < next → totals q cs (next - 1) ≡ totals q cs p) → (next < limits.highest → totals q cs next ≢ totals q cs p) → (b : Bool) → (b ≡ true → totals q cs next ≢ totals q cs p) → (b ≡ false → totals q cs next ≡ totals q cs p) → NextChange (totals q cs) limits p (then_some b next)
-  changes limits p next from to before there true others same =
-      let above : p < next = ⊎_elim (λ l. l) (λ l. absurd (others refl (ap (totals q cs) (omega arith)))) (cases_lt p next) in
-      (above, omega arith, others refl, λ m lo hi. between p m (next - 1) lo (omega arith) (before above))
-  changes limits p next from to before there false others same =
-      λ n lo hi. ⊎_elim (λ l. absurd (there l (same refl))) (λ l. between p n next lo (omega arith) (same refl)) (cases_lt next limits.highest)
+  -- where others hold at the highest price, the totals are the same up to next and others there
+  pub changes : (limits : Limits) (p next : ℕ) → p < limits.highest → p < next → next ≤ limits.highest → (p + 1 < next → totals q cs (next - 1) ≡ totals q cs p) → (next < limits.highest → totals q cs next ≢ totals q cs p) → totals q cs limits.highest ≢ totals q cs p → NextChange (totals q cs) limits p (Some next)
+  changes limits p next under above to before there top =
+      let others : totals q cs next ≢ totals q cs p = ⊎_elim there (λ l e. top (ap (totals q cs) (omega arith) ∙ e)) (cases_lt next limits.highest) in
+      (above, to, others, λ m lo hi. ⊎_elim (λ l. between p m (next - 1) lo (omega arith) (before (omega arith))) (λ l. ap (totals q cs) (omega arith)) (cases_lt p m))
 
 -- ---- the margin by the quantities at, above and below a price
 least_by : (h a b h' a' b' : ℤ) → h' ≤ℤ h → int_max a' (pos 0) ≤ℤ int_max a (pos 0) → (margin_by h' a' b').least ≤ℤ (margin_by h a b).least

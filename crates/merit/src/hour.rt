@@ -62,12 +62,12 @@ impl<'a, C: PriceCurve> Hour<'a, C> {
         ensures { NextChange (totals C.PriceCurve.meaning self.now.curves.now) self.now.limits price result }
     {
         let here = self.totals_at(price);
-        let next = first_from(
-            price,
-            self.limits.highest,
-            |other| self.totals_at(other) != here,
-        );
-        (self.totals_at(next) != here).then_some(next)
+        let highest = self.limits.highest;
+        // Asked first: where nothing changes up to the highest price, no search is made.
+        if price >= highest || self.totals_at(highest) == here {
+            return None;
+        }
+        Some(first_from(price + 1, highest, |other| self.totals_at(other) != here))
     }
 
     /// The lowest price within the limits at which the margins let the matches add up to 0.

@@ -1,28 +1,11 @@
--- What a search among bids of rising number finds, and what a place among them says of the bid that stands under a number.
-use Rattle.std.proofs.Common.{◌≤◌, Result, sym, ◌≡◌, ℕ, zero, suc, ◌<◌, true, eqb, ltb, List, [], ◌∷◌, length, get_or, Some, None, Ok, Err, refl, ◌∙◌, inl, inr, arith}
+-- What a place among bids of rising number says of the bid that stands under a number.
+use Rattle.std.proofs.Common.{◌≡◌, ℕ, zero, suc, ◌<◌, true, eqb, ltb, List, [], ◌∷◌, length, get_or, Some, None, Ok, Err, refl, ◌∙◌, inl, inr, arith}
 use Rattle.std.proofs.lemmas.Bool.{and_parts, eq-eqb, ne_eqb, cond-true, cond-false, cases_lt}
-use Rattle.std.specs.List.Sorted.{IsSearchInRange, IsBinarySearchResult, IsNonDecreasingBy}
-use Rattle.std.specs.Ordering.{nat_cmp, ordering_index}
-use Rattle.std.proofs.lemmas.Cmp.{ranked}
-use Rattle.std.proofs.lemmas.Bool.Decides.{nat_tests}
 use Rattle.bids.specs.Kinds.{Kind}
 use Rattle.register.specs.Order.{standing_as, rising, Placed}
-use Rattle.register.proofs.Steps.{above, apart}
+use Rattle.register.proofs.Steps.{above}
 
 module _ {B : Type 0} (k : Kind B) where
-  -- comparisons with a number rise along numbers that rise
-  comparisons_rise : (n : ℕ) (xs : List B) → rising k 0 xs ≡ true → IsNonDecreasingBy (λ x. ordering_index (nat_cmp (k.number_of x) n)) xs
-  comparisons_rise n xs up i j d le l =
-      let numbers : k.number_of (get_or xs i d) ≤ k.number_of (get_or xs j d) = elim (cases_lt i j) as (λ _. k.number_of (get_or xs i d) ≤ k.number_of (get_or xs j d)) [ inl a ↦ let b = apart k 0 xs up i j d a l in omega arith | inr a ↦ let e : i ≡ j = omega arith in rw e (omega arith) ] in
-      grind (arith, nat_tests)
-
-  -- a binary search by number ends where the number stands, or where it would
-  pub searched : (n : ℕ) (xs : List B) → rising k 0 xs ≡ true → (r : Result ℕ ℕ) → IsSearchInRange r (length xs) → IsBinarySearchResult (λ x. nat_cmp (k.number_of x) n) xs r → Placed k n xs r
-  searched n xs up (Ok at) in_range equal = (in_range, λ d. ranked _ n _ (sym (equal d)))
-  searched n xs up (Err at) in_range parted =
-      let p = parted (comparisons_rise n xs up) in
-      (in_range, (λ j d lt. ranked _ n _ (sym (p.0 j d (omega arith) lt))), (λ j d le lt. ranked _ n _ (sym (p.1 j d le lt))))
-
   -- where the number stands, the bid there is the one of that number
   pub found_from : (m n : ℕ) (xs : List B) (i : ℕ) (d : B) → rising k m xs ≡ true → i < length xs → k.number_of (get_or xs i d) ≡ n → standing_as k n xs ≡ Some (get_or xs i d)
   found_from m n (x ∷ xs) zero d r l e = cond-true (eqb (k.number_of x) n) _ _ (eq-eqb _ _ e)

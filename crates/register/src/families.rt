@@ -30,7 +30,7 @@ impl<'a> Register<'a, BlockBid> {
         ensures { result ≡ rank_in self.now.bids.now block.now }
     {
         let mut at = *block;
-        for level in 0..LOWEST_LEVEL + 1 {
+        for level in 0..LOWEST_LEVEL {
             let Some(parent) = at.parent else {
                 return Some(Rank {
                     level,
@@ -42,7 +42,14 @@ impl<'a> Register<'a, BlockBid> {
                 Err(_) => return None,
             }
         }
-        None
+        // A block that names a parent here too is on no level, whether that stands or not.
+        match at.parent {
+            Some(_) => None,
+            None => Some(Rank {
+                level: LOWEST_LEVEL,
+                head: at.number,
+            }),
+        }
     }
 
     /// Whether the parent of a block, where it names one, stands and may be its parent.
@@ -67,6 +74,10 @@ impl<'a> Register<'a, BlockBid> {
         ensures value { result ≡ families_kept self.now.bids.now }
         ensures ancestors { result ≡ true → NoOwnAncestor self.now.bids.now }
     {
+        // A register without blocks is not to pay for the counts.
+        if self.bids.is_empty() {
+            return true;
+        }
         // The counts lie in an array of fixed size, two for each number of a head, since a library here has no heap.
         let mut counts = [0u8; 131_072];
         for block in self.bids {

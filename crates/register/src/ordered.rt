@@ -36,7 +36,22 @@ impl<'a, B: Bid> Register<'a, B> {
     pub fn find(&self, number: u16) -> Result<usize, usize>
         ensures { Placed B.Bid.kind number self.now.bids.now result }
     {
-        self.bids.binary_search_by_key(&number, |bid| bid.number())
+        // The library's search (`binary_search_by_key`) goes on to the end where this one has found the number.
+        let mut low = 0;
+        let mut high = self.bids.len();
+        while low < high {
+            let middle = low + (high - low) / 2;
+            let here = self.bids[middle].number();
+            if here == number {
+                return Ok(middle);
+            }
+            if here < number {
+                low = middle + 1;
+            } else {
+                high = middle;
+            }
+        }
+        Err(low)
     }
 }
 
@@ -77,8 +92,8 @@ pub fn standing<B: Bid>(bids: &[B], participant: u16) -> usize
     ensures { result ≡ tally B.Bid.kind participant bids.now }
 {
     bids.iter()
-        .filter(|bid| bid.participant() == participant)
-        .count()
+        .map(|bid| usize::from(bid.participant() == participant))
+        .sum()
 }
 
 /// Puts a bid at a place among the first bids of a table; those from there on move up by one.
